@@ -1,0 +1,227 @@
+-- Demand 3, second half: the checkpoint that the encoding entry wrote, restored by the restoring entry over the flash as a power cut left
+-- it, gives each logical page exactly what it held when the checkpoint was taken.
+use Prim.Native.Nat.{ℕ, zero, suc, _+_, _*_, _≤_, _<_}
+use native.Mathlib.Omega.{arith}
+use mathlib.Core.Path.{_≡_, refl, sym, ap, _∙_, subst}
+use mathlib.Core.Bool.{Bool, true, false}
+use mathlib.Core.Logic.{_⊎_, inl, inr, _≢_}
+use mathlib.Core.List.{List, [], _∷_}
+use lib.Dec.{leb, eqb}
+use lib.ListN.{length, getD, take, replicate, length-replicate}
+use borrow.Author.Tests.{eq-eqb}
+use Rattle.model.specs.Lists.{every, splice, zeros}
+use Rattle.model.specs.Numbers.{Geometry, Good, good?, Answer, Moved, Refused, empty, endless, pageOf}
+use Rattle.model.specs.Tables.{Tables, wordOf, tabWords, pages, view, packed}
+use Rattle.model.specs.Sound.{soundb}
+use Rattle.model.specs.Device.{Flash, Op, state, pageAt, performAll}
+use Rattle.model.specs.PageWrite.{content}
+use Rattle.model.specs.Checkpoint.{sealed, fileSize, reasonOf, restored, restoredFrom}
+use Rattle.model.specs.Entry.{Recorder, recorder, Lent, lent, Outcome, outcome, refused, unless, guarded, tablesFit, tablesOf, clean, seenScratch, encoding, restoring}
+use Rattle.model.specs.History.{Call, Format, Open, Read, Write, Collect, CollectList, CollectThreshold, Encode, Restore, lit, run, after, opsOf, contentOf, mapIn, Begins, Cut, Elsewhere, Spares, IsRefused, Keeps, Phase, running, lost, Since, checkpoint, lent-fuse, called, off, cut, regained, GivesBack}
+use Rattle.model.proofs.Working.{Fit, Counted}
+use Rattle.model.proofs.View.{sized-view, view-packed}
+use Rattle.model.proofs.Official.{soundb-counted, counted-sound}
+use Rattle.model.proofs.Content.{content-same}
+use Rattle.model.proofs.Ops.{Holds, Safe, SafeOps, all-kept, cut-kept}
+use Rattle.model.proofs.Restore.{Back}
+use Rattle.model.proofs.Sealed.{saved-passes, comes-back, accepted-sound, file-end}
+use Rattle.model.proofs.Guard.{each, good-test, test-good, tables-test, test-tables, clean-zeros, unless-passes, guarded-passes, guarded-by}
+use Rattle.model.proofs.Entry.{SoundIn, tab, packed-in, counted-in, Step, stepped, Begun, Stayed, opened-or, restored-or, by-kind, opened-flash, restored-flash}
+
+-- ---- what an encoding that was not refused tells
+
+pub record Encoded (G : Geometry) (x : Lent) (m : ℕ) (buffer : List ℕ) : Type 0 where
+  pub good : Good G
+  pub words-size : length (x .unit .words) ≡ tabWords G
+  pub used-size : length (x .unit .used) ≡ pages G
+  pub counted : Counted G (tablesOf G x)
+  pub file : take m buffer ≡ sealed G (tablesOf G x)
+
+pub encoded : (G : Geometry) (x : Lent) (m : ℕ) → encoding G x .answer ≡ Moved m → Encoded G x m (encoding G x .left .buffer)
+unfolding encoding
+encoded G x m =
+    guarded-by (λ y. y .answer ≡ Moved m → Result y) _ _ _ _ x _ (λ e. absurd (no e)) (λ e. absurd (no e))
+    (λ a b _ _ e.
+    let t : (i : ℕ) → _ = each (good? G ∷ tablesFit G x ∷ leb (fileSize G) (length (x .buffer)) ∷ clean (seenScratch G ∷ []) (x .scratch) ∷ []) a in
+    let K : Good G = good-test G (t 0) in
+    let h : (length (x .unit .words) ≡ tabWords G) × (length (x .unit .used) ≡ pages G) = tables-test G x (t 1) in
+    let S : Counted G (tablesOf G x) = soundb-counted G (tablesOf G x) (sized-view G (x .unit .words) (x .unit .used) (h .0) (h .1)) b in
+    record {
+      good = K;
+      words-size = h .0;
+      used-size = h .1;
+      counted = S;
+      file = rw (length-is e) (file-end G K (tablesOf G x) S (x .buffer));
+    })
+  where
+    Result : Outcome → Type 0
+    Result y = Encoded G x m (y .left .buffer)
+
+    no : {c : _} → Refused c ≡ Moved m → ⊥
+    no e = let z : _≡_ {A = ℕ} 0 1 = cc in omega arith
+
+    length-is : Moved (fileSize G) ≡ Moved m → m ≡ fileSize G
+    length-is e = cc
+
+module _ (G : Geometry) (bad : List ℕ) (r₀ : Recorder) (K : Good G) (S₀ : Counted G (tab G r₀)) where
+  abbrev t₀ : Tables
+  t₀ = tab G r₀
+
+  abbrev M : List ℕ
+  M = mapIn G r₀
+
+  abbrev file : List ℕ
+  file = sealed G t₀
+
+  held₀ : Holds G M (t₀ .free)
+  held₀ = record { seg = S₀ .seg<; page = S₀ .page< }
+
+  page₀ : (l : ℕ) → getD M l empty ≢ empty → pageOf G (getD M l empty) < G.p
+  page₀ l m = omega (arith, S₀ .page< l m)
+
+  -- the pages mapped at the checkpoint hold what they held
+  Pages : Flash → Type 0
+  Pages f = (l : ℕ) → getD M l empty ≢ empty → pageAt G f (getD M l empty) ≡ pageAt G (r₀ .flash) (getD M l empty)
+
+  -- and while running, the tables are sound and keep those pages in use
+  record Still (r : Recorder) : Type 0 where
+    sound : SoundIn G r
+    holds : Holds G M (tab G r .free)
+    pages : Pages (r .flash)
+
+  Inv : Phase → Recorder → Type 0
+  Inv running r = Still r
+  Inv lost r = Pages (r .flash)
+
+  -- the checkpoint's tables come back with its map and free counts
+  B₀ : Back t₀ (restoredFrom G file)
+  B₀ = comes-back G K t₀ S₀
+
+  -- a restore of the file that is not refused
+  restored-still : (r : Recorder) (o : Outcome) → Pages (r .flash) → Begun G r (restoredFrom G file) o → Still (o .left .unit)
+  unfolding Pages
+  restored-still r o P b =
+      subst Still (sym (b .unit))
+      (record {
+        sound = packed-in G (restoredFrom G file) (r .flash) (b .counted);
+        holds = subst (λ t. Holds G M (t .free)) (sym (view-packed (b .counted .sized))) (rw (B₀ .free) held₀);
+        pages = P;
+      })
+
+  -- a call that begins nothing
+  stepped-still : (r r′ : Recorder) (ops : List Op) → Still r → Step G r r′ ops → Spares G M ops → Still r′
+  unfolding Pages
+  stepped-still r r′ ops B R e =
+      record {
+        sound = R .sound (B .sound);
+        holds = R .safe M (B .holds) .holds e;
+        pages = λ l m. ap (λ f. pageAt G f (getD M l empty)) (R .performs) ∙ kept (R .fits) l m ∙ B .pages l m;
+      }
+    where
+      kept : (ops ≡ []) ⊎ Fit G (r .flash) → (l : ℕ) → getD M l empty ≢ empty → pageAt G (performAll G ops (r .flash)) (getD M l empty) ≡ pageAt G (r .flash) (getD M l empty)
+      kept (inl q) l m = ap (λ os. pageAt G (performAll G os (r .flash)) (getD M l empty)) q
+      kept (inr F) l m = all-kept G M l m (page₀ l m) ops (r .flash) F (R .safe M (B .holds) .safe) e
+
+  -- a refused call leaves everything
+  stayed-still : (r : Recorder) (x : Lent) (o : Outcome) → x .unit ≡ r → Still r → Stayed x o → Still (o .left .unit)
+  stayed-still r x o e B s = subst (λ y. Still (y .left .unit)) (sym (s .is)) (subst Still (sym e) B)
+
+  -- an opening that kept the checkpoint was refused; a restore was of the file, or refused
+  opened-still : (r : Recorder) (t : Tables) (o : Outcome) → Still r → IsRefused (o .answer) → Stayed (lent r [] []) o ⊎ Begun G r t o → Still (o .left .unit)
+  opened-still r t o B k (inl s) = stayed-still r (lent r [] []) o refl B s
+  opened-still r t o B k (inr b) = absurd (subst IsRefused (b .answer) k)
+
+  restore-still : (r : Recorder) (b : List ℕ) (s : List (List ℕ)) (o : Outcome) → Still r → (b ≡ file) ⊎ IsRefused (o .answer)
+      → Stayed (lent r [] s) o ⊎ Begun G r (restoredFrom G b) o → Still (o .left .unit)
+  restore-still r b s o B k (inl y) = stayed-still r (lent r [] s) o refl B y
+  restore-still r b s o B (inl e) (inr y) = restored-still r o (B .pages) (subst (λ z. Begun G r (restoredFrom G z) o) e y)
+  restore-still r b s o B (inr k) (inr y) = absurd (subst IsRefused (y .answer) k)
+
+  called-still : (c : Call) (r : Recorder) → Still r → Keeps file c (run G bad c r .answer) → Spares G M (run G bad c r .ops) → Still (after G bad c r)
+  called-still c r B =
+      by-kind (λ c. Keeps file c (run G bad c r .answer) → Spares G M (run G bad c r .ops) → Still (after G bad c r))
+      (λ k _. opened-still r _ _ B k (opened-or G (lent r [] [])))
+      (λ b s k _. restore-still r b s _ B k (restored-or G b (lent r [] s)))
+      (λ c n _ e. stepped-still r _ _ B (stepped G bad c r n) e)
+      c
+
+  -- a cut in a call: its operations are none, or safe on flash of the right size
+  cut-list : (ops : List Op) (i : ℕ) (f f′ : Flash) → Pages f → (ops ≡ []) ⊎ (Fit G f × SafeOps G M ops)
+      → Spares G M (take (suc i) ops) → Cut G i ops f f′ → Pages f′
+  unfolding Pages
+  cut-list ops i f f′ P (inl q) e k l m = ap (λ z. pageAt G z (getD M l empty)) (subst (λ os. Cut G i os f f′) q k) ∙ P l m
+  cut-list ops i f f′ P (inr s) e k l m = cut-kept G M l m (page₀ l m) i ops f f′ (s .0) (s .1) e k ∙ P l m
+
+  listed : (c : Call) (r : Recorder) → Still r → (opsOf G bad c r ≡ []) ⊎ (Fit G (r .flash) × SafeOps G M (opsOf G bad c r))
+  listed c r B =
+      by-kind (λ c. (opsOf G bad c r ≡ []) ⊎ (Fit G (r .flash) × SafeOps G M (opsOf G bad c r)))
+      (inl (opened-flash G bad (lit endless r) .1))
+      (λ b s. inl (restored-flash G bad b s (lit endless r) .1))
+      (λ c n. ops-of (stepped G bad c (lit endless r) n))
+      c
+    where
+      ops-of : {r′ : Recorder} {ops : List Op} → Step G (lit endless r) r′ ops → (ops ≡ []) ⊎ (Fit G (r .flash) × SafeOps G M ops)
+      ops-of {r′} {ops} R = go (R .fits)
+        where
+          go : (ops ≡ []) ⊎ Fit G (lit endless r .flash) → (ops ≡ []) ⊎ (Fit G (r .flash) × SafeOps G M ops)
+          go (inl q) = inl q
+          go (inr F) = inr (record { bytes = F .bytes; marks = F .marks; counts = F .counts }, R .safe M (B .holds) .safe)
+
+  regained-still : (r : Recorder) (s : List (List ℕ)) (o : Outcome) → Pages (r .flash) → o .answer ≡ Moved 0
+      → Stayed (lent r [] s) o ⊎ Begun G r (restoredFrom G file) o → Still (o .left .unit)
+  regained-still r s o P e (inl y) = absurd (let z : _≡_ {A = ℕ} 0 1 = cc in omega arith)
+  regained-still r s o P e (inr y) = restored-still r o P y
+
+  still : {p : Phase} {r : Recorder} → SoundIn G r₀ → Since G bad r₀ file p r → Inv p r
+  unfolding Inv Pages
+  still S checkpoint = record { sound = S; holds = held₀; pages = λ l m. refl }
+  still S (lent-fuse {r} h f) =
+      let B : Still r = still S h in
+      record {
+        sound = record { words-size = B .sound .words-size; used-size = B .sound .used-size; sound = B .sound .sound };
+        holds = B .holds;
+        pages = B .pages;
+      }
+  still S (called {r} h c k e) = called-still c r (still S h) k e
+  still S (off {r} h w u) = let B : Still r = still S h in B .pages
+  still S (cut {r} h c i f e k w u) = let B : Still r = still S h in cut-list (opsOf G bad c r) i (r .flash) f (B .pages) (listed c r B) e k
+  still S (regained {r} h s e) = regained-still r s _ (still S h) e (restored-or G file (lent r [] s))
+
+  -- over tables of the right size and clean scratch the restore is not refused
+  begins : (r : Recorder) → length (r .words) ≡ tabWords G → length (r .used) ≡ pages G
+      → Begun G r (restoredFrom G file) (run G bad (Restore file (zeros (pages G) ∷ [])) r)
+  unfolding restoring every
+  begins r a b =
+      let p : every (good? G ∷ tablesFit G x ∷ clean (pages G ∷ []) (x .scratch) ∷ []) ≡ true = rw (test-good G K, test-tables G x a b, clean-zeros (pages G)) in
+      let q : eqb (reasonOf G file) 0 ≡ true = eq-eqb _ _ (saved-passes G K t₀ S₀) in
+      subst (Begun G r (restoredFrom G file)) (sym (guarded-passes _ _ _ _ x _ p refl refl refl ∙ unless-passes _ _ x _ q))
+      (record { good = K; counted = accepted-sound G file (saved-passes G K t₀ S₀) K; unit = refl; answer = refl; ops = refl })
+    where
+      x : Lent
+      x = lent r [] (zeros (pages G) ∷ [])
+
+  pub gives-back : SoundIn G r₀ → {r : Recorder} → Since G bad r₀ file lost r → length (r .words) ≡ tabWords G → length (r .used) ≡ pages G
+      → GivesBack G bad r₀ file r
+  unfolding Inv Pages
+  gives-back S {r} h a b =
+      let D : Begun G r (restoredFrom G file) (run G bad (Restore file (zeros (pages G) ∷ [])) r) = begins r a b in
+      record {
+        answer = D .answer;
+        contents = λ l.
+            ap (λ q. contentOf G q l) (D .unit)
+            ∙ ap (λ t. content G (state t (r .flash)) l) (view-packed (D .counted .sized))
+            ∙ content-same G (state t₀ (r₀ .flash)) (state (restoredFrom G file) (r .flash)) l (ap (λ x. getD x l empty) (B₀ .map)) (λ m. still S h l m);
+      }
+
+-- Demand 3, second half. A checkpoint was taken of r₀: the encoding was not refused. Whatever was done since, as `Since` says, and wherever
+-- the power went, restoring the file that the encoding wrote, over tables of the right size that hold anything, gives back each page.
+pub cut-restores : (G : Geometry) (bad : List ℕ) (r₀ : Recorder) (buffer : List ℕ) (scratch : List (List ℕ)) (m : ℕ)
+    → run G bad (Encode buffer scratch) r₀ .answer ≡ Moved m
+    → {r : Recorder} → Since G bad r₀ (take m (run G bad (Encode buffer scratch) r₀ .left .buffer)) lost r
+    → length (r .words) ≡ tabWords G → length (r .used) ≡ pages G
+    → GivesBack G bad r₀ (take m (run G bad (Encode buffer scratch) r₀ .left .buffer)) r
+cut-restores G bad r₀ buffer scratch m e {r} h a b =
+    let E : Encoded G (lent r₀ buffer scratch) m (run G bad (Encode buffer scratch) r₀ .left .buffer) = encoded G (lent r₀ buffer scratch) m e in
+    let S : SoundIn G r₀ = record { words-size = E .words-size; used-size = E .used-size; sound = counted-sound G (tab G r₀) (E .counted) } in
+    subst (λ z. GivesBack G bad r₀ z r) (sym (E .file))
+    (gives-back G bad r₀ (E .good) (E .counted) S (subst (λ z. Since G bad r₀ z lost r) (E .file) h) a b)

@@ -1,0 +1,12 @@
+-- What document 01 says, as definitions that compute. Each carries the sentence that it says, in quotation marks.
+pub mod Lists
+pub mod Numbers
+pub mod Tables
+pub mod Sound
+pub mod Device
+pub mod PageMap
+pub mod PageWrite
+pub mod PageGc
+pub mod Checkpoint
+pub mod Entry
+pub mod History
