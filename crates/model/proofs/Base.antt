@@ -15,7 +15,8 @@ use Rattle.model.specs.Numbers.{Geometry, Good, empty}
 use Rattle.model.specs.Tables.{Tables, listOf, queueOf}
 use Rattle.model.specs.Sound.{names}
 use Rattle.model.specs.Checkpoint.{bare, opened, usedBy}
-use Rattle.model.proofs.Working.{Counted, Fit, Sized}
+use Rattle.model.specs.Contract.{Fit}
+use Rattle.model.proofs.Working.{Counted, Sized}
 use Rattle.model.proofs.Slots.{less?}
 use Rattle.model.proofs.Unlink.{names-empty}
 

@@ -16,7 +16,8 @@ use Rattle.model.specs.Sound.{Mapped, slotOf}
 use Rattle.model.specs.Device.{State, state, Out, out, mayErase, performAll, finish, refuse, behind, goOn, raised}
 use Rattle.model.specs.PageWrite.{content, holds, whole, oldPage, writePage}
 use Rattle.model.specs.PageGc.{victim, taken, copyAnswer, cleared, finishOf, lastOf, copyOne, drain, collectOf, collect, collectMore, collectList, collectThreshold}
-use Rattle.model.proofs.Working.{Counted, Fit}
+use Rattle.model.specs.Contract.{Fit}
+use Rattle.model.proofs.Working.{Counted}
 use Rattle.model.proofs.Slots.{same?, slot-at}
 use Rattle.model.proofs.Counts.{occ-getD}
 use Rattle.model.proofs.Unlink.{mapped-lt, names-pos, list-length}

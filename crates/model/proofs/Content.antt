@@ -15,7 +15,8 @@ use Rattle.model.specs.Numbers.{Geometry, Good, addr, empty, flat, pageO
 use Rattle.model.specs.Tables.{Tables}
 use Rattle.model.specs.Device.{Flash, flash, State, burn, blanked, pageAt, programmed}
 use Rattle.model.specs.PageWrite.{nothing, holds, whole, content, oldPage}
-use Rattle.model.proofs.Working.{Counted, Fit}
+use Rattle.model.specs.Contract.{Fit}
+use Rattle.model.proofs.Working.{Counted}
 use Rattle.model.proofs.Slots.{same?, part-fits, below-part, slot-length, onSlot-length, onSlot-same, onSlot-other, slot-slot, place-inj-seg, place-inj-page}
 use Rattle.model.proofs.Address.{addr-seg, addr-page}
 

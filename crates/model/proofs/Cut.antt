@@ -16,9 +16,10 @@ use Rattle.model.specs.Sound.{soundb}
 use Rattle.model.specs.Device.{Flash, Op, state, pageAt, performAll}
 use Rattle.model.specs.PageWrite.{content}
 use Rattle.model.specs.Checkpoint.{sealed, fileSize, reasonOf, restored, restoredFrom}
-use Rattle.model.specs.Entry.{Recorder, recorder, Lent, lent, Outcome, outcome, refused, unless, guarded, tablesFit, tablesOf, clean, seenScratch, encoding, restoring}
-use Rattle.model.specs.History.{Call, Format, Open, Read, Write, Collect, CollectList, CollectThreshold, Encode, Restore, lit, run, after, opsOf, contentOf, mapIn, Begins, Cut, Elsewhere, Spares, IsRefused, Keeps, Phase, running, lost, Since, checkpoint, lent-fuse, called, off, cut, regained, GivesBack}
-use Rattle.model.proofs.Working.{Fit, Counted}
+use Rattle.model.specs.Entry.{Recorder, recorder, Lent, lent, Outcome, outcome, refused, unless, guarded, tablesFit, tablesOf, clean, seenScratch, formatting, encoding, restoring}
+use Rattle.model.specs.History.{Call, Format, Open, Read, Write, Collect, CollectList, CollectThreshold, Encode, Restore, lit, run, after, opsOf, contentOf, mapIn, Cut, Elsewhere, Spares, IsRefused, Keeps, Phase, running, lost, Allowed, Since, checkpoint, lent-fuse, called, off, cut, regained, GivesBack}
+use Rattle.model.specs.Contract.{Fit}
+use Rattle.model.proofs.Working.{Counted}
 use Rattle.model.proofs.View.{sized-view, view-packed}
 use Rattle.model.proofs.Official.{soundb-counted, counted-sound}
 use Rattle.model.proofs.Content.{content-same}
@@ -26,7 +27,7 @@ use Rattle.model.proofs.Ops.{Holds, Safe, SafeOps, all-kept, cut-kept}
 use Rattle.model.proofs.Restore.{Back}
 use Rattle.model.proofs.Sealed.{saved-passes, comes-back, accepted-sound, file-end}
 use Rattle.model.proofs.Guard.{each, good-test, test-good, tables-test, test-tables, clean-zeros, unless-passes, guarded-passes, guarded-by}
-use Rattle.model.proofs.Entry.{SoundIn, tab, packed-in, counted-in, Step, stepped, Begun, Stayed, opened-or, restored-or, by-kind, opened-flash, restored-flash}
+use Rattle.model.proofs.Entry.{SoundIn, tab, packed-in, counted-in, Step, stepped, Begun, Stayed, opened-or, restored-or, by-kind, Wiped, wiped, opened-flash, restored-flash}
 
 -- ---- what an encoding that was not refused tells
 
@@ -108,19 +109,49 @@ module _ (G : Geometry) (bad : List ℕ) (r₀ : Recorder) (K : Good G) (S₀ : 
         pages = P;
       })
 
+  -- operations that are none, or safe on flash of the right size, done or cut, keep the pages
+  Listed : Flash → List Op → Type 0
+  Listed f ops = (ops ≡ []) ⊎ (Fit G f × SafeOps G M ops)
+
+  done-pages : (ops : List Op) (f : Flash) → Pages f → Listed f ops → Spares G M ops → Pages (performAll G ops f)
+  unfolding Pages Listed
+  done-pages ops f P (inl q) e l m = ap (λ os. pageAt G (performAll G os f) (getD M l empty)) q ∙ P l m
+  done-pages ops f P (inr s) e l m = all-kept G M l m (page₀ l m) ops f (s .0) (s .1) e ∙ P l m
+
+  cut-pages : (ops : List Op) (i : ℕ) (f f′ : Flash) → Pages f → Listed f ops → Spares G M (take (suc i) ops) → Cut G i ops f f′ → Pages f′
+  unfolding Pages Listed
+  cut-pages ops i f f′ P (inl q) e k l m = ap (λ z. pageAt G z (getD M l empty)) (subst (λ os. Cut G i os f f′) q k) ∙ P l m
+  cut-pages ops i f f′ P (inr s) e k l m = cut-kept G M l m (page₀ l m) i ops f f′ (s .0) (s .1) e k ∙ P l m
+
+  -- a step's operations are such a list
+  step-listed : (r r′ : Recorder) (ops : List Op) → Holds G M (tab G r .free) → Step G r r′ ops → Listed (r .flash) ops
+  unfolding Listed
+  step-listed r r′ ops H R = go (R .fits)
+    where
+      go : (ops ≡ []) ⊎ Fit G (r .flash) → (ops ≡ []) ⊎ (Fit G (r .flash) × SafeOps G M ops)
+      go (inl q) = inl q
+      go (inr F) = inr (F, R .safe M H .safe)
+
+  -- and formatting's, whatever the tables hold
+  wiped-listed : (f : Flash) (ops : List Op) → (ops ≡ []) ⊎ (Fit G f × ((M : List ℕ) → SafeOps G M ops)) → Listed f ops
+  unfolding Listed
+  wiped-listed f ops (inl q) = inl q
+  wiped-listed f ops (inr e) = inr (e .0, e .1 M)
+
+  -- the size of the flash does not hang on the fuse
+  relisted : (r : Recorder) (f : ℕ) (ops : List Op) → Listed (lit f r .flash) ops → Listed (r .flash) ops
+  unfolding Listed
+  relisted r f ops (inl q) = inl q
+  relisted r f ops (inr s) = inr (record { bytes = s .0 .bytes; marks = s .0 .marks; counts = s .0 .counts }, s .1)
+
   -- a call that begins nothing
   stepped-still : (r r′ : Recorder) (ops : List Op) → Still r → Step G r r′ ops → Spares G M ops → Still r′
-  unfolding Pages
   stepped-still r r′ ops B R e =
       record {
         sound = R .sound (B .sound);
         holds = R .safe M (B .holds) .holds e;
-        pages = λ l m. ap (λ f. pageAt G f (getD M l empty)) (R .performs) ∙ kept (R .fits) l m ∙ B .pages l m;
+        pages = subst Pages (sym (R .performs)) (done-pages ops (r .flash) (B .pages) (step-listed r r′ ops (B .holds) R) e);
       }
-    where
-      kept : (ops ≡ []) ⊎ Fit G (r .flash) → (l : ℕ) → getD M l empty ≢ empty → pageAt G (performAll G ops (r .flash)) (getD M l empty) ≡ pageAt G (r .flash) (getD M l empty)
-      kept (inl q) l m = ap (λ os. pageAt G (performAll G os (r .flash)) (getD M l empty)) q
-      kept (inr F) l m = all-kept G M l m (page₀ l m) ops (r .flash) F (R .safe M (B .holds) .safe) e
 
   -- a refused call leaves everything
   stayed-still : (r : Recorder) (x : Lent) (o : Outcome) → x .unit ≡ r → Still r → Stayed x o → Still (o .left .unit)
@@ -140,51 +171,75 @@ module _ (G : Geometry) (bad : List ℕ) (r₀ : Recorder) (K : Good G) (S₀ : 
   called-still : (c : Call) (r : Recorder) → Still r → Keeps file c (run G bad c r .answer) → Spares G M (run G bad c r .ops) → Still (after G bad c r)
   called-still c r B =
       by-kind (λ c. Keeps file c (run G bad c r .answer) → Spares G M (run G bad c r .ops) → Still (after G bad c r))
-      (λ k _. opened-still r _ _ B k (opened-or G (lent r [] [])))
-      (λ b s k _. restore-still r b s _ B k (restored-or G b (lent r [] s)))
+      (λ k _. opened-still r _ _ B (k .no-opening refl) (opened-or G (lent r [] [])))
+      (λ b s k _. restore-still r b s _ B (k .no-other b s refl) (restored-or G b (lent r [] s)))
       (λ c n _ e. stepped-still r _ _ B (stepped G bad c r n) e)
       c
 
-  -- a cut in a call: its operations are none, or safe on flash of the right size
-  cut-list : (ops : List Op) (i : ℕ) (f f′ : Flash) → Pages f → (ops ≡ []) ⊎ (Fit G f × SafeOps G M ops)
-      → Spares G M (take (suc i) ops) → Cut G i ops f f′ → Pages f′
-  unfolding Pages
-  cut-list ops i f f′ P (inl q) e k l m = ap (λ z. pageAt G z (getD M l empty)) (subst (λ os. Cut G i os f f′) q k) ∙ P l m
-  cut-list ops i f f′ P (inr s) e k l m = cut-kept G M l m (page₀ l m) i ops f f′ (s .0) (s .1) e k ∙ P l m
-
-  listed : (c : Call) (r : Recorder) → Still r → (opsOf G bad c r ≡ []) ⊎ (Fit G (r .flash) × SafeOps G M (opsOf G bad c r))
+  -- the operations of a call while running, under an endless fuse
+  listed : (c : Call) (r : Recorder) → Still r → Listed (r .flash) (opsOf G bad c r)
+  unfolding Listed
   listed c r B =
-      by-kind (λ c. (opsOf G bad c r ≡ []) ⊎ (Fit G (r .flash) × SafeOps G M (opsOf G bad c r)))
+      by-kind (λ c. Listed (r .flash) (opsOf G bad c r))
       (inl (opened-flash G bad (lit endless r) .1))
       (λ b s. inl (restored-flash G bad b s (lit endless r) .1))
-      (λ c n. ops-of (stepped G bad c (lit endless r) n))
+      (λ c n. relisted r endless _ (step-listed (lit endless r) _ _ (B .holds) (stepped G bad c (lit endless r) n)))
       c
-    where
-      ops-of : {r′ : Recorder} {ops : List Op} → Step G (lit endless r) r′ ops → (ops ≡ []) ⊎ (Fit G (r .flash) × SafeOps G M ops)
-      ops-of {r′} {ops} R = go (R .fits)
-        where
-          go : (ops ≡ []) ⊎ Fit G (lit endless r .flash) → (ops ≡ []) ⊎ (Fit G (r .flash) × SafeOps G M ops)
-          go (inl q) = inl q
-          go (inr F) = inr (record { bytes = F .bytes; marks = F .marks; counts = F .counts }, R .safe M (B .holds) .safe)
+
+  -- formatting while the power is gone
+  formatted-pages : (r : Recorder) → Pages (r .flash) → Spares G M (run G bad Format r .ops) → Pages (after G bad Format r .flash)
+  formatted-pages r P e =
+      let W : Wiped G r (formatting G (lent r [] [])) = wiped G (lent r [] []) in
+      subst Pages (sym (W .performs)) (done-pages _ (r .flash) P (wiped-listed (r .flash) _ (W .erases)) e)
+
+  formatted-cut : (r : Recorder) (i : ℕ) (f : Flash) → Pages (r .flash) → Spares G M (take (suc i) (opsOf G bad Format r))
+      → Cut G i (opsOf G bad Format r) (r .flash) f → Pages f
+  formatted-cut r i f P e k =
+      let W : Wiped G (lit endless r) (formatting G (lent (lit endless r) [] [])) = wiped G (lent (lit endless r) [] []) in
+      cut-pages _ i (r .flash) f P (relisted r endless _ (wiped-listed (lit endless r .flash) _ (W .erases))) e k
+
+  -- a call in either phase, done or cut
+  called-inv : (p : Phase) (c : Call) (r : Recorder) → Inv p r → Allowed p c → Keeps file c (run G bad c r .answer) → Spares G M (run G bad c r .ops)
+      → Inv p (after G bad c r)
+  unfolding Inv
+  called-inv running c r B _ k e = called-still c r B k e
+  called-inv lost c r P q k e =
+      subst (λ c. Spares G M (run G bad c r .ops) → Pages (after G bad c r .flash)) (sym q) (formatted-pages r P) e
+
+  cut-inv : (p : Phase) (c : Call) (r : Recorder) (i : ℕ) (f : Flash) → Inv p r → Allowed p c → Spares G M (take (suc i) (opsOf G bad c r))
+      → Cut G i (opsOf G bad c r) (r .flash) f → Pages f
+  unfolding Inv
+  cut-inv running c r i f B _ e k = cut-pages (opsOf G bad c r) i (r .flash) f (B .pages) (listed c r B) e k
+  cut-inv lost c r i f P q e k =
+      subst (λ c. Spares G M (take (suc i) (opsOf G bad c r)) → Cut G i (opsOf G bad c r) (r .flash) f → Pages f) (sym q) (formatted-cut r i f P) e k
 
   regained-still : (r : Recorder) (s : List (List ℕ)) (o : Outcome) → Pages (r .flash) → o .answer ≡ Moved 0
       → Stayed (lent r [] s) o ⊎ Begun G r (restoredFrom G file) o → Still (o .left .unit)
   regained-still r s o P e (inl y) = absurd (let z : _≡_ {A = ℕ} 0 1 = cc in omega arith)
   regained-still r s o P e (inr y) = restored-still r o P y
 
-  still : {p : Phase} {r : Recorder} → SoundIn G r₀ → Since G bad r₀ file p r → Inv p r
+  pages-of : (p : Phase) (r : Recorder) → Inv p r → Pages (r .flash)
+  unfolding Inv
+  pages-of running r B = B .pages
+  pages-of lost r P = P
+
+  relit : (p : Phase) (r : Recorder) (f : ℕ) → Inv p r → Inv p (lit f r)
   unfolding Inv Pages
-  still S checkpoint = record { sound = S; holds = held₀; pages = λ l m. refl }
-  still S (lent-fuse {r} h f) =
-      let B : Still r = still S h in
+  relit lost r f P = P
+  relit running r f B =
       record {
         sound = record { words-size = B .sound .words-size; used-size = B .sound .used-size; sound = B .sound .sound };
         holds = B .holds;
         pages = B .pages;
       }
-  still S (called {r} h c k e) = called-still c r (still S h) k e
-  still S (off {r} h w u) = let B : Still r = still S h in B .pages
-  still S (cut {r} h c i f e k w u) = let B : Still r = still S h in cut-list (opsOf G bad c r) i (r .flash) f (B .pages) (listed c r B) e k
+
+  still : {p : Phase} {r : Recorder} → SoundIn G r₀ → Since G bad r₀ file p r → Inv p r
+  unfolding Inv Pages
+  still S checkpoint = record { sound = S; holds = held₀; pages = λ l m. refl }
+  still S (lent-fuse {p} {r} h f) = relit p r f (still S h)
+  still S (called {p} {r} h c q k e) = called-inv p c r (still S h) q k e
+  still S (off {p} {r} h w u) = pages-of p r (still S h)
+  still S (cut {p} {r} h c q i f e k w u) = cut-inv p c r i f (still S h) q e k
   still S (regained {r} h s e) = regained-still r s _ (still S h) e (restored-or G file (lent r [] s))
 
   -- over tables of the right size and clean scratch the restore is not refused

@@ -18,12 +18,13 @@ use Rattle.model.specs.PageWrite.{content, writePage}
 use Rattle.model.specs.PageGc.{collect, collectList, collectThreshold}
 use Rattle.model.specs.Checkpoint.{opened, reasonOf, restoredFrom}
 use Rattle.model.specs.Entry.{Recorder, recorder, Lent, lent, Outcome, outcome, refused, unless, guarded, tablesOf, stateOf, back, tablesFit, flashFits, pageScratch, seenScratch, allFits, clean, formatting, opening, read, write, collecting, collection, listCollection, thresholdCollection, encoding, restoring}
-use Rattle.model.specs.History.{Call, Format, Open, Read, Write, Collect, CollectList, CollectThreshold, Encode, Restore, lit, run, after, opsOf, contentOf, Begins, Reached, begun, called, lent-fuse}
-use Rattle.model.proofs.Working.{Sized, Fit, Counted}
+use Rattle.model.specs.History.{Call, Format, Open, Read, Write, Collect, CollectList, CollectThreshold, Encode, Restore, lit, run, after, opsOf, contentOf, Reached, by-opening, by-restoring, called, lent-fuse}
+use Rattle.model.specs.Contract.{Fit}
+use Rattle.model.proofs.Working.{Sized, Counted}
 use Rattle.model.proofs.Address.{flat-inj}
 use Rattle.model.proofs.View.{sized-view, packed-length, view-packed}
 use Rattle.model.proofs.Official.{counted-sound, sound-counted, soundb-counted}
-use Rattle.model.proofs.Ops.{Holds, Safe}
+use Rattle.model.proofs.Ops.{Holds, Safe, SafeOps}
 use Rattle.model.proofs.Write.{Wrote, wrote}
 use Rattle.model.proofs.Collect.{Kept, collected, collected-list, collected-threshold}
 use Rattle.model.proofs.Format.{Formatted, formatted}
@@ -188,16 +189,56 @@ encoding-unit G x = guarded-by (λ y. (y .left .unit ≡ x .unit) × (y .ops ≡
 step-same : (G : Geometry) (r : Recorder) (o : Outcome) → (o .left .unit ≡ r) × (o .ops ≡ []) → StepOf G r o
 step-same G r o e = subst (λ r′. Step G r r′ (o .ops)) (sym (e .0)) (subst (λ os. Step G r r os) (sym (e .1)) (step-none G r))
 
--- formatting
-step-format : (G : Geometry) (x : Lent) → StepOf G (x .unit) (formatting G x)
+-- formatting: whatever the tables hold, its operations are erases
+pub record Wiped (G : Geometry) (r : Recorder) (o : Outcome) : Type 0 where
+  pub words : o .left .unit .words ≡ r .words
+  pub used : o .left .unit .used ≡ r .used
+  pub performs : o .left .unit .flash ≡ performAll G (o .ops) (r .flash)
+  pub erases : (o .ops ≡ []) ⊎ (Fit G (r .flash) × ((M : List ℕ) → SafeOps G M (o .ops)))
+
+pub wiped : (G : Geometry) (x : Lent) → Wiped G (x .unit) (formatting G x)
 unfolding formatting
-step-format G x =
-    guarded-by (StepOf G (x .unit)) _ _ _ _ x _ (step-none G (x .unit)) (step-none G (x .unit))
+wiped G x =
+    guarded-by (Wiped G (x .unit)) _ _ _ _ x _ none none
     (λ a _ _ _.
     let t : (i : ℕ) → _ = each (good? G ∷ flashFits G (x .unit .flash) ∷ []) a in
     let F : Fit G (x .unit .flash) = flash-test G (x .unit .flash) (t 1) in
     let D : Formatted G (stateOf G x) (formatFrom G (G .n) 0 (stateOf G x)) = formatted G (stateOf G x) F in
-    record { sound = λ S. record { words-size = S .words-size; used-size = S .used-size; sound = S .sound }; performs = D .performs; fits = inr F; safe = λ M H. D .safe M _ H })
+    record { words = refl; used = refl; performs = D .performs; erases = inr (F, D .erases) })
+  where
+    none : {c : Cause} → Wiped G (x .unit) (refused c x)
+    none = record { words = refl; used = refl; performs = refl; erases = inl refl }
+
+step-format : (G : Geometry) (x : Lent) → StepOf G (x .unit) (formatting G x)
+step-format G x =
+    record {
+      sound = λ S.
+          record {
+            words-size = ap length (W .words) ∙ S .words-size;
+            used-size = ap length (W .used) ∙ S .used-size;
+            sound = subst (Sound G) (sym same) (S .sound);
+          };
+      performs = W .performs;
+      fits = sized (W .erases);
+      safe = λ M H. record { safe = erases-of M (W .erases); holds = λ _. subst (λ t. Holds G M (t .free)) (sym same) H };
+    }
+  where
+    W : Wiped G (x .unit) (formatting G x)
+    W = wiped G x
+
+    ops : List Op
+    ops = formatting G x .ops
+
+    same : tab G (formatting G x .left .unit) ≡ tab G (x .unit)
+    same = ap (λ w. view G w (formatting G x .left .unit .used)) (W .words) ∙ ap (view G (x .unit .words)) (W .used)
+
+    sized : (ops ≡ []) ⊎ (Fit G (x .unit .flash) × ((M : List ℕ) → SafeOps G M ops)) → (ops ≡ []) ⊎ Fit G (x .unit .flash)
+    sized (inl q) = inl q
+    sized (inr e) = inr (e .0)
+
+    erases-of : (M : List ℕ) → (ops ≡ []) ⊎ (Fit G (x .unit .flash) × ((M : List ℕ) → SafeOps G M ops)) → SafeOps G M ops
+    erases-of M (inl q) = subst (SafeOps G M) (sym q) tt
+    erases-of M (inr e) = e .1 M
 
 -- ---- an opening and a restore: refused, or the tables are made anew over the flash as it is
 
@@ -255,7 +296,18 @@ module _ (G : Geometry) (x : Lent) (t : Tables) (o : Outcome) where
 
 -- ---- every call
 
--- a call that begins nothing is a step
+-- an opening and a restore begin anew; every other call is a step
+abbrev pub Begins : Call → Type 0
+Begins Open = Unit {0}
+Begins (Restore b s) = Unit {0}
+Begins Format = ⊥
+Begins (Read sector len o s) = ⊥
+Begins (Write sector len d s) = ⊥
+Begins (Collect s) = ⊥
+Begins (CollectList m s) = ⊥
+Begins (CollectThreshold t m s) = ⊥
+Begins (Encode b s) = ⊥
+
 pub stepped : (G : Geometry) (bad : List ℕ) (c : Call) (r : Recorder) → (Begins c → ⊥) → StepOf G r (run G bad c r)
 unfolding collection listCollection thresholdCollection
 stepped G bad Format r n = step-format G (lent r [] [])
@@ -311,27 +363,24 @@ module _ (G : Geometry) (bad : List ℕ) where
 
   -- ---- "any state reached by public calls"
 
-  begins-sound : (c : Call) (r : Recorder) → Begins c → run G bad c r .answer ≡ Moved 0 → SoundIn G (after G bad c r)
-  begins-sound c r =
-      by-kind (λ c. Begins c → run G bad c r .answer ≡ Moved 0 → SoundIn G (after G bad c r))
-      (λ _ e. or-answered G (lent r [] []) _ _ (opened-or G (lent r [] [])) e)
-      (λ b s _ e. or-answered G (lent r [] s) _ _ (restored-or G b (lent r [] s)) e)
-      (λ c n h e. absurd (n h))
-      c
-
   pub reached-sound : {r : Recorder} → Reached G bad r → SoundIn G r
-  reached-sound (begun r c b e) = begins-sound c r b e
+  reached-sound (by-opening r e) = or-answered G (lent r [] []) _ _ (opened-or G (lent r [] [])) e
+  reached-sound (by-restoring r b s e) = or-answered G (lent r [] s) _ _ (restored-or G b (lent r [] s)) e
   reached-sound (called {r} h c) = kept-sound c r (reached-sound h)
   reached-sound (lent-fuse {r} h f) =
       let S : SoundIn G r = reached-sound h in
       record { words-size = S .words-size; used-size = S .used-size; sound = S .sound }
 
   -- Demand 3: no two mapped logical pages share a physical page
+  pub sound-apart : (r : Recorder) → SoundIn G r → (l m : ℕ) → Mapped (tab G r) l → Mapped (tab G r) m
+      → flat G (wordOf (tab G r) l) ≡ flat G (wordOf (tab G r) m) → l ≡ m
+  sound-apart r h l m a b e =
+      let S : Counted G (tab G r) = counted-in G r h in
+      S .apart l m a (flat-inj G (wordOf (tab G r) l) (wordOf (tab G r) m) (omega (arith, S .page< l a)) (omega (arith, S .page< m b)) e)
+
   pub apart : {r : Recorder} → Reached G bad r → (l m : ℕ) → Mapped (tab G r) l → Mapped (tab G r) m
       → flat G (wordOf (tab G r) l) ≡ flat G (wordOf (tab G r) m) → l ≡ m
-  apart {r} h l m a b e =
-      let S : Counted G (tab G r) = counted-in G r (reached-sound h) in
-      S .apart l m a (flat-inj G (wordOf (tab G r) l) (wordOf (tab G r) m) (omega (arith, S .page< l a)) (omega (arith, S .page< m b)) e)
+  apart {r} h = sound-apart r (reached-sound h)
 
   -- ---- the fuse
 

@@ -7,21 +7,21 @@ use mathlib.Core.List.{List, [], _∷_}
 use lib.Dec.{eqb}
 use Rattle.model.specs.Numbers.{Geometry, Answer, Moved}
 use Rattle.model.specs.Device.{State, state, Out, EraseSeg, blanked, performAll, finish, behind, formatFrom}
-use Rattle.model.proofs.Working.{Fit}
+use Rattle.model.specs.Contract.{Fit}
 use Rattle.model.proofs.Content.{blank-fit}
-use Rattle.model.proofs.Ops.{Holds, Safe}
+use Rattle.model.proofs.Ops.{SafeOps}
 
 pub record Formatted (G : Geometry) (st : State) (o : Out) : Type 0 where
   pub tab : o .st .tab ≡ st .tab
   pub fit : Fit G (o .st .flash)
   pub answer : o .answer ≡ Moved 0
   pub performs : o .st .flash ≡ performAll G (o .ops) (st .flash)
-  pub safe : (M free : List ℕ) → Holds G M free → Safe G M (o .ops) free
+  pub erases : (M : List ℕ) → SafeOps G M (o .ops)
 
 module _ (G : Geometry) where
   none : (st : State) → Fit G (st .flash) → Formatted G st (finish 0 st)
   none st F =
-      record { tab = refl; fit = F; answer = refl; performs = refl; safe = λ M free H. record { safe = tt; holds = λ _. H } }
+      record { tab = refl; fit = F; answer = refl; performs = refl; erases = λ M. tt }
 
   -- one segment, and the rest
   more : (st : State) (g : ℕ) (o : Out) → g < G.n → Formatted G (state (st .tab) (blanked G g 0 (st .flash))) o → Formatted G st (behind (EraseSeg g 0 ∷ []) o)
@@ -31,7 +31,7 @@ module _ (G : Geometry) where
         fit = I .fit;
         answer = I .answer;
         performs = I .performs;
-        safe = λ M free H. record { safe = (hg, λ _. I .safe M free H .safe); holds = λ e. I .safe M free H .holds (e .1) };
+        erases = λ M. (hg, λ _. I .erases M);
       }
 
   formatted-from : (k g : ℕ) (st : State) → k + g ≤ G.n → Fit G (st .flash) → Formatted G st (formatFrom G k g st)

@@ -12,7 +12,7 @@ use Rattle.model.specs.Numbers.{Geometry, Good, goodTests, good?, Cause,
 use Rattle.model.specs.Tables.{tabWords, pages}
 use Rattle.model.specs.Device.{Flash}
 use Rattle.model.specs.Entry.{Lent, Outcome, refused, unless, guarded, clean, tablesFit, flashFits}
-use Rattle.model.proofs.Working.{Fit}
+use Rattle.model.specs.Contract.{Fit}
 
 pub both : (a b : Bool) → (a && b) ≡ true → (a ≡ true) × (b ≡ true)
 both true b e = (refl, e)

@@ -28,3 +28,4 @@ pub mod View
 pub mod Entry
 pub mod Cut
 pub mod Outcome
+pub mod Held

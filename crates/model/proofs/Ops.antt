@@ -11,7 +11,7 @@ use Rattle.model.specs.Numbers.{Geometry, empty, flat, pageOf, segOf}
 use Rattle.model.specs.Tables.{Tables, at}
 use Rattle.model.specs.Device.{Flash, Op, Program, EraseSeg, Out, behind, blanked, burn, pageAt, perform, performAll, programmed}
 use Rattle.model.specs.History.{Elsewhere, Spares, Torn, Cut}
-use Rattle.model.proofs.Working.{Fit}
+use Rattle.model.specs.Contract.{Fit}
 use Rattle.model.proofs.Slots.{place-inj-seg, place-inj-page}
 use Rattle.model.proofs.Spend.{Next}
 use Rattle.model.proofs.Content.{program-other, program-fit, segment-other, segment-fit, blank-other, blank-fit}

@@ -12,7 +12,7 @@ use lib.ListN.{length, getD, take, drop, length-append, length-drop}
 use lib.Seq.{take-at, drop-at, take-append-seam, drop-append-seam, length-take-le}
 use borrow.Author.Tests.{lt-ltb, le-leb, eq-eqb, ltb-true, leb-true, eqb-true}
 use Rattle.crc32.specs.Crc32.{crc32}
-use Rattle.crc32.proofs.Division.{crc-after}
+use Rattle.crc32.proofs.Laws.{crc-lt}
 use Rattle.model.specs.Lists.{upTo, firstNot, splice}
 use Rattle.model.specs.Numbers.{Geometry, Good, empty}
 use Rattle.model.specs.Tables.{Tables, at, wordOf}
@@ -25,9 +25,6 @@ use Rattle.model.proofs.Restore.{Back, round-trip, restored-sound}
 use Rattle.model.proofs.Bytes.{Words, length-word, length-words, length-read, words-append, word-at, long-at, words-at}
 
 -- a checksum is a word
-pub crc-lt : (m : List ℕ) → crc32 m < 4294967296
-crc-lt m = omega (arith, crc-after m)
-
 -- how many map entries there are at most
 pub entries : (G : Geometry) → Good G → G .e ≤ 67107840
 entries G K = omega (arith, K .e≤, mul-le-mul (K .n≤) (K .p≤))

@@ -9,7 +9,6 @@ use Rattle.model.specs.Lists.{slot, occ}
 use Rattle.model.specs.Numbers.{Geometry, empty, segOf, pageOf}
 use Rattle.model.specs.Tables.{Tables, at, wordOf, queueOf, listOf}
 use Rattle.model.specs.Sound.{Mapped, names}
-use Rattle.model.specs.Device.{Flash}
 
 pub record Sized (G : Geometry) (t : Tables) : Type 0 where
   pub map : length (t .map) ≡ G.e
@@ -20,11 +19,6 @@ pub record Sized (G : Geometry) (t : Tables) : Type 0 where
   pub lens : length (t .lens) ≡ G.n
   pub queue : length (t .queue) ≡ G.n
   pub flags : length (t .flags) ≡ G.n
-
-pub record Fit (G : Geometry) (f : Flash) : Type 0 where
-  pub bytes : length (f .bytes) ≡ G.n * G.p * G.s
-  pub marks : length (f .marks) ≡ G.n * G.p
-  pub counts : length (f .counts) ≡ G.n
 
 pub record Counted (G : Geometry) (t : Tables) : Type 0 where
   pub sized : Sized G t

@@ -14,7 +14,8 @@ use Rattle.model.specs.Tables.{Tables, queueOf}
 use Rattle.model.specs.Device.{burn, Flash, Out, State, mayProgram, pageAt, performAll, programmed, refuse}
 use Rattle.model.specs.PageMap.{At, Found, Nothing, find, forget, place, spend}
 use Rattle.model.specs.PageWrite.{holds, content, oldPage, spent, stored, writeAt, writePage}
-use Rattle.model.proofs.Working.{Counted, Fit}
+use Rattle.model.specs.Contract.{Fit}
+use Rattle.model.proofs.Working.{Counted}
 use Rattle.model.proofs.Slots.{same?, below-part}
 use Rattle.model.proofs.Ops.{Holds, Safe, held-apart}
 use Rattle.model.proofs.Spend.{Next, spend-sound, spend-free≤, free-same}

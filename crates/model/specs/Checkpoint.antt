@@ -63,6 +63,10 @@ module _ (G : Geometry) where
   abbrev pub opened : ℕ → Tables
   opened alloc = bare (replicate G.n G.p) (cond (ltb alloc G.n) alloc 0)
 
+  -- "Fresh: opened from zeroed tables."
+  abbrev pub fresh : Tables
+  fresh = opened 0
+
   -- "word 0x50465443, word 1, then 8-byte allocation segment, n, p, e": bytes 0 to 39
   unfoldable pub head : ℕ → List ℕ
   head alloc = word magic ++ word version ++ long alloc ++ long G.n ++ long G.p ++ long G.e

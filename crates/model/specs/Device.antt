@@ -115,3 +115,7 @@ module _ (G : Geometry) where
   formatFrom (suc k) g st =
       let rest = behind (EraseSeg g 0 ∷ []) (formatFrom k (suc g) (state (st .tab) (blanked G g 0 (st .flash)))) in
       cond (eqb (st .flash .fuse) 0) (finish 0 st) rest
+
+  -- "Formatted flash, here and in 02, is flash just formatted with no erase skipped.": with the fuse f left
+  abbrev pub formattedFlash : ℕ → Flash
+  formattedFlash f = flash (replicate (G.n * G.p * G.s) 255) (replicate (G.n * G.p) 0) (replicate G.n 0) f

@@ -1,5 +1,5 @@
 -- The public entries. Each is a function of all that it is lent, on every input: geometry, bad list, lengths and contents may be anything.
--- What an entry is not lent stands as an empty list in what it is given, and it neither tests nor changes it.
+-- "Lent" names what an entry is lent beside the geometry; the rest of what it is given here it neither tests nor changes.
 use Prim.Native.Nat.{ℕ, _+_, _*_}
 use mathlib.Core.Bool.{Bool, true, false, not, cond, _&&_}
 use mathlib.Core.List.{List, [], _∷_}
@@ -87,21 +87,22 @@ module _ (G : Geometry) where
   abbrev pub seenScratch : ℕ
   seenScratch = G.n + G.p
 
-  -- "[Formatting] tests geometry and sizes only"
+  -- Lent: the flash. "[Formatting] tests geometry and sizes only"
   unfoldable pub formatting : Lent → Outcome
   formatting x =
       let o = formatFrom G G.n 0 (stateOf x) in
       guarded (every (good? G ∷ flashFits (x .unit .flash) ∷ [])) true true true x
       (outcome (lent (recorder (x .unit .words) (x .unit .used) (o .st .flash)) (x .buffer) (x .scratch)) (o .answer) (o .ops))
 
-  -- "Opening and restoring test sizes, not soundness."
+  -- Lent: words, use marks. "Opening and restoring test sizes, not soundness."
   unfoldable pub opening : Lent → Outcome
   opening x =
       let t = opened G (tablesOf x .alloc) in
       guarded (every (good? G ∷ tablesFit x ∷ [])) true true true x
       (outcome (lent (recorder (packed t) (t .used) (x .unit .flash)) (x .buffer) (x .scratch)) (Moved 0) [])
 
-  -- "bytes at the offset of the mapped page"; "bytes of a read's buffer beyond the length stay". Scratch: seen
+  -- Lent: words, use marks, the flash's bytes, the buffer; scratch: seen.
+  -- "bytes at the offset of the mapped page"; "bytes of a read's buffer beyond the length stay"
   unfoldable pub read : ℕ → ℕ → Lent → Outcome
   read sector len x =
       let l = logicalPage G sector in
@@ -121,8 +122,8 @@ module _ (G : Geometry) where
       (unless (not (eqb (wordOf (tablesOf x) l) empty)) Unmapped x
       (outcome (lent (x .unit) (splice 0 shown (x .buffer)) (x .scratch)) (Moved len) []))
 
-  -- Scratch: seen
-  -- "Length 44 + 4e + 4n; encoding answers it; a longer buffer's bytes beyond stay." "checkpoint buffer too short"
+  -- Lent: words, use marks, the buffer; scratch: seen. The buffer's need is fixed by the geometry, so "checkpoint buffer too short" is a size.
+  -- "Length 44 + 4e + 4n; encoding answers it; a longer buffer's bytes beyond stay."
   unfoldable pub encoding : Lent → Outcome
   encoding x =
       guarded
@@ -133,7 +134,8 @@ module _ (G : Geometry) where
       x
       (outcome (lent (x .unit) (splice 0 (sealed G (tablesOf x)) (x .buffer)) (x .scratch)) (Moved (fileSize G)) [])
 
-  -- "Lent tables of wrong size get 22 first." "Any reason leaves tables and flash unchanged." "success answers 0". Scratch: taken marks
+  -- Lent: the file b, words, use marks; scratch: taken marks.
+  -- "Lent tables of wrong size get 22 first." "Any reason leaves tables and flash unchanged." "success answers 0"
   unfoldable pub restoring : List ℕ → Lent → Outcome
   restoring b x =
       let t = restoredFrom G b in
@@ -148,7 +150,7 @@ module _ (G : Geometry) where
     allFits scratch x =
         every (good? G ∷ tablesFit x ∷ flashFits (x .unit .flash) ∷ eqb (length bad) G.n ∷ clean scratch (x .scratch) ∷ [])
 
-    -- "A data buffer shorter than the length is a wrong lent size". Scratch: page, seen
+    -- Lent: bad list, data d, words, use marks, the flash; scratch: page, seen. "A data buffer shorter than the length is a wrong lent size"
     unfoldable pub write : ℕ → ℕ → List ℕ → Lent → Outcome
     write sector len d x =
         guarded
@@ -159,7 +161,7 @@ module _ (G : Geometry) where
         x
         (back x (writePage G bad (logicalPage G sector) (offset G sector) (take len d) (stateOf x)))
 
-    -- the collections. Scratch: page, seen, order
+    -- the collections. Lent: bad list, words, use marks, the flash; scratch: page, seen, order
     abbrev pub collecting : Lent → Out → Outcome
     collecting x o = guarded (allFits (pageScratch ∷ seenScratch ∷ G.n ∷ []) x) (soundb G (tablesOf x)) true true x (back x o)
 

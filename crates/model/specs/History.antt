@@ -56,20 +56,11 @@ mapIn G r = view G (r .words) (r .used) .map
 
 -- ---- "any state reached by public calls"
 
--- an opening or a restore, which make tables of whatever words were lent
-abbrev pub Begins : Call → Type 0
-Begins Open = Unit {0}
-Begins (Restore b s) = Unit {0}
-Begins Format = ⊥
-Begins (Read sector len o s) = ⊥
-Begins (Write sector len d s) = ⊥
-Begins (Collect s) = ⊥
-Begins (CollectList m s) = ⊥
-Begins (CollectThreshold t m s) = ⊥
-Begins (Encode b s) = ⊥
-
+-- an opening or a restore makes tables of whatever was lent; then come calls, with any fuse
 pub data Reached (G : Geometry) (bad : List ℕ) : Recorder → Type 0 where
-  begun : (r : Recorder) (c : Call) → Begins c → run G bad c r .answer ≡ Moved 0 → Reached G bad (after G bad c r)
+  by-opening : (r : Recorder) → run G bad Open r .answer ≡ Moved 0 → Reached G bad (after G bad Open r)
+  by-restoring : (r : Recorder) (b : List ℕ) (s : List (List ℕ)) → run G bad (Restore b s) r .answer ≡ Moved 0
+      → Reached G bad (after G bad (Restore b s) r)
   called : {r : Recorder} → Reached G bad r → (c : Call) → Reached G bad (after G bad c r)
   lent-fuse : {r : Recorder} → Reached G bad r → (f : ℕ) → Reached G bad (lit f r)
 
@@ -105,35 +96,34 @@ abbrev pub IsRefused : Answer → Type 0
 IsRefused (Moved m) = ⊥
 IsRefused (Refused c) = Unit {0}
 
--- "no opening, no restore of another" than the file: a refused one is none
-abbrev pub Keeps : List ℕ → Call → Answer → Type 0
-Keeps file Open a = IsRefused a
-Keeps file (Restore b s) a = (b ≡ file) ⊎ IsRefused a
-Keeps file Format a = Unit {0}
-Keeps file (Read sector len o s) a = Unit {0}
-Keeps file (Write sector len d s) a = Unit {0}
-Keeps file (Collect s) a = Unit {0}
-Keeps file (CollectList m s) a = Unit {0}
-Keeps file (CollectThreshold t m s) a = Unit {0}
-Keeps file (Encode b s) a = Unit {0}
+-- "no opening, no restore of another" than the file: a refused one changes nothing, and is none
+pub record Keeps (file : List ℕ) (c : Call) (a : Answer) : Type 0 where
+  pub no-opening : c ≡ Open → IsRefused a
+  pub no-other : (b : List ℕ) (s : List (List ℕ)) → c ≡ Restore b s → (b ≡ file) ⊎ IsRefused a
 
 -- running, or the power is gone and with it what the tables held
 pub data Phase : Type 0 where
   running : Phase
   lost : Phase
 
--- The recorders r that can come of r₀, where the checkpoint `file` was taken, under demand 3's premises: between calls any fuse may be lent;
--- no call is an opening or a restore of another file; the erases begun spare the segments of pages mapped then; the power may go between
--- calls, or at any device operation of a call, and then the words and use marks are anything until the file is restored.
+-- While the power is gone the words and use marks may hold anything, even the words of other sound tables, so no call but formatting, which
+-- has no tables lent, can be made before the file is restored.
+abbrev pub Allowed : Phase → Call → Type 0
+Allowed running c = Unit {0}
+Allowed lost c = c ≡ Format
+
+-- The recorders r that can come of r₀, where the checkpoint `file` was taken, under demand 3's premises: any fuse may be lent; no call is an
+-- opening or a restore of another file; the erases begun spare the segments of pages mapped then; the power may go between calls, or at any
+-- device operation of a call, as often as it likes.
 pub data Since (G : Geometry) (bad : List ℕ) (r₀ : Recorder) (file : List ℕ) : Phase → Recorder → Type 0 where
   checkpoint : Since G bad r₀ file running r₀
-  lent-fuse : {r : Recorder} → Since G bad r₀ file running r → (f : ℕ) → Since G bad r₀ file running (lit f r)
-  called : {r : Recorder} → Since G bad r₀ file running r → (c : Call)
+  lent-fuse : {p : Phase} {r : Recorder} → Since G bad r₀ file p r → (f : ℕ) → Since G bad r₀ file p (lit f r)
+  called : {p : Phase} {r : Recorder} → Since G bad r₀ file p r → (c : Call) → Allowed p c
       → Keeps file c (run G bad c r .answer)
       → Spares G (mapIn G r₀) (run G bad c r .ops)
-      → Since G bad r₀ file running (after G bad c r)
-  off : {r : Recorder} → Since G bad r₀ file running r → (w u : List ℕ) → Since G bad r₀ file lost (recorder w u (r .flash))
-  cut : {r : Recorder} → Since G bad r₀ file running r → (c : Call) (i : ℕ) (f : Flash)
+      → Since G bad r₀ file p (after G bad c r)
+  off : {p : Phase} {r : Recorder} → Since G bad r₀ file p r → (w u : List ℕ) → Since G bad r₀ file lost (recorder w u (r .flash))
+  cut : {p : Phase} {r : Recorder} → Since G bad r₀ file p r → (c : Call) → Allowed p c → (i : ℕ) (f : Flash)
       → Spares G (mapIn G r₀) (take (suc i) (opsOf G bad c r))
       → Cut G i (opsOf G bad c r) (r .flash) f
       → (w u : List ℕ) → Since G bad r₀ file lost (recorder w u f)

@@ -4,6 +4,7 @@ pub mod Numbers
 pub mod Tables
 pub mod Sound
 pub mod Device
+pub mod Contract
 pub mod PageMap
 pub mod PageWrite
 pub mod PageGc
