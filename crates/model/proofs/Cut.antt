@@ -243,10 +243,10 @@ module _ (G : Geometry) (bad : List ℕ) (r₀ : Recorder) (K : Good G) (S₀ : 
   still S (regained {r} h s e) = regained-still r s _ (still S h) e (restored-or G file (lent r [] s))
 
   -- over tables of the right size and clean scratch the restore is not refused
-  begins : (r : Recorder) → length (r .words) ≡ tabWords G → length (r .used) ≡ pages G
+  pub restores : (r : Recorder) → length (r .words) ≡ tabWords G → length (r .used) ≡ pages G
       → Begun G r (restoredFrom G file) (run G bad (Restore file (zeros (pages G) ∷ [])) r)
   unfolding restoring every
-  begins r a b =
+  restores r a b =
       let p : every (good? G ∷ tablesFit G x ∷ clean (pages G ∷ []) (x .scratch) ∷ []) ≡ true = rw (test-good G K, test-tables G x a b, clean-zeros (pages G)) in
       let q : eqb (reasonOf G file) 0 ≡ true = eq-eqb _ _ (saved-passes G K t₀ S₀) in
       subst (Begun G r (restoredFrom G file)) (sym (guarded-passes _ _ _ _ x _ p refl refl refl ∙ unless-passes _ _ x _ q))
@@ -259,7 +259,7 @@ module _ (G : Geometry) (bad : List ℕ) (r₀ : Recorder) (K : Good G) (S₀ : 
       → GivesBack G bad r₀ file r
   unfolding Inv Pages
   gives-back S {r} h a b =
-      let D : Begun G r (restoredFrom G file) (run G bad (Restore file (zeros (pages G) ∷ [])) r) = begins r a b in
+      let D : Begun G r (restoredFrom G file) (run G bad (Restore file (zeros (pages G) ∷ [])) r) = restores r a b in
       record {
         answer = D .answer;
         contents = λ l.

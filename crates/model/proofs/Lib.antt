@@ -27,5 +27,9 @@ pub mod Regions
 pub mod View
 pub mod Entry
 pub mod Cut
+pub mod Round
 pub mod Outcome
 pub mod Held
+pub mod Turns
+pub mod Refusals
+pub mod Examples

@@ -1,15 +1,17 @@
 -- The public entries. Each is a function of all that it is lent, on every input: geometry, bad list, lengths and contents may be anything.
 -- "Lent" names what an entry is lent beside the geometry; the rest of what it is given here it neither tests nor changes.
 use Prim.Native.Nat.{ℕ, _+_, _*_}
+use mathlib.Core.Path.{_≡_}
 use mathlib.Core.Bool.{Bool, true, false, not, cond, _&&_}
 use mathlib.Core.List.{List, [], _∷_}
 use lib.Dec.{ltb, leb, eqb}
 use lib.ListN.{length, take, drop}
+use lib.IntN.{ℤ}
 use Rattle.model.specs.Lists.{every, blank, splice}
-use Rattle.model.specs.Numbers.{Geometry, Answer, Moved, Refused, Cause, Wrong, Unsound, Unmapped, Reason, empty, good?, logicalPage, offset}
+use Rattle.model.specs.Numbers.{Geometry, Answer, Moved, Refused, Cause, Wrong, Unsound, Unmapped, Reason, empty, good?, logicalPage, offset, number}
 use Rattle.model.specs.Tables.{Tables, wordOf, tabWords, pages, view, packed}
 use Rattle.model.specs.Sound.{soundb}
-use Rattle.model.specs.Device.{Flash, Op, State, state, Out, formatFrom}
+use Rattle.model.specs.Device.{Flash, flash, Op, State, state, Out, formatFrom}
 use Rattle.model.specs.PageWrite.{whole, writePage}
 use Rattle.model.specs.PageGc.{collect, collectList, collectThreshold}
 use Rattle.model.specs.Checkpoint.{opened, sealed, fileSize, reasonOf, restoredFrom}
@@ -40,6 +42,15 @@ pub record Outcome : Type 0 where
 
 abbrev pub outcome : Lent → Answer → List Op → Outcome
 outcome x a os = record { left = x; answer = a; ops = os }
+
+-- what an entry promises: it leaves what it was lent, and answers, as the outcome o says
+pub record Promise (o : Outcome) (left : Lent) (r : ℤ) : Type 0 where
+  pub left-is : left ≡ o .left
+  pub answer-is : r ≡ number (o .answer)
+
+-- what stands for a part that an entry is not lent
+abbrev pub noFlash : Flash
+noFlash = flash [] [] [] 0
 
 -- "nothing changed"
 abbrev pub refused : Cause → Lent → Outcome

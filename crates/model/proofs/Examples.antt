@@ -1,0 +1,340 @@
+-- The marked examples of document 01, its trace, and what its traps would get wrong: one table. Each row's calls are run through the public
+-- entries, and one equation, by computation, says what every call of every row answers and all that is left behind.
+use Prim.Native.Nat.{ℕ, _+_, _*_, _-_, _%_}
+use mathlib.Core.Path.{_≡_, refl}
+use mathlib.Core.List.{List, [], _∷_, _++_, map}
+use lib.IntN.{ℤ, pos, negsuc}
+use lib.ListN.{getD, set, length, replicate}
+use Rattle.crc32.specs.Crc32.{plus, add, among, powers, low, remainder, bitsOf, bits, digit, number as valueOf, dividend, crc32}
+use Rattle.model.specs.Lists.{without, pushFront, insertBy, sortBy, splice, total, occ, all, every, blank, upTo, zeros}
+use Rattle.model.specs.Numbers.{Geometry, number, good?, endless}
+use Rattle.model.specs.Tables.{Tables, tables, tabWords, pages, view, packed}
+use Rattle.model.specs.Sound.{names, soundb}
+use Rattle.model.specs.Device.{Flash, flash, burn, mayProgram, mayErase, formatFrom}
+use Rattle.model.specs.PageMap.{clearFrom, findFrom, find, invalidate, forget}
+use Rattle.model.specs.PageWrite.{oldPage, writeAt, writePage}
+use Rattle.model.specs.PageGc.{sorted, finishOf, drain, collectOf, collect, collectMore, collectList, collectThreshold}
+use Rattle.model.specs.Checkpoint.{usedBy, word, long, words, wordAt, longAt, wordsAt, head, file, reasonOf, welcome, settleAll, restored}
+use Rattle.model.specs.Entry.{Recorder, recorder, unless, guarded, clean, formatting, opening, read, encoding, restoring, write}
+use Rattle.model.specs.Entry.{collection, listCollection, thresholdCollection}
+use Rattle.model.specs.History.{Call, Format, Open, Read, Write, Collect, CollectList, CollectThreshold, Encode, Restore, run}
+
+-- ---- rows
+
+-- what is seen of a call: its answer, and the buffer that it was lent to fill (empty where it is lent none)
+record Reply : Type 0 where
+  answer : ℤ
+  buffer : List ℕ
+
+-- what is seen of a row: the replies, first to last, and at the end all words, all use marks, and the flash with its fuse
+record Seen : Type 0 where
+  replies : List Reply
+  left : Recorder
+
+-- a device with no bad segment, the memory lent to it at first, the calls, and what is to be seen
+record Row : Type 0 where
+  device : Geometry
+  start : Recorder
+  calls : List (Geometry → Call)
+  is : Seen
+
+abbrev see : Geometry → List (Geometry → Call) → Recorder → Seen
+see G [] r = record { replies = []; left = r }
+see G (c ∷ cs) r =
+    let o = run G (zeros (G .n)) (c G) r in
+    let rest = see G cs (o .left .unit) in
+    record { replies = record { answer = number (o .answer); buffer = o .left .buffer } ∷ rest .replies; left = rest .left }
+
+seen : Row → Seen
+unfolding
+    without pushFront insertBy sortBy splice total occ all every blank upTo good? view packed names soundb burn mayProgram mayErase formatFrom
+    clearFrom findFrom find invalidate forget oldPage writeAt writePage sorted finishOf drain collectOf collect collectMore collectList
+    collectThreshold usedBy word long words wordAt longAt wordsAt head file reasonOf welcome settleAll restored unless guarded clean formatting
+    opening read encoding restoring write collection listCollection thresholdCollection plus add among powers low remainder bitsOf
+    bits digit valueOf dividend crc32
+seen r = see (r .device) (r .calls) (r .start)
+
+-- ---- what rows are written with
+
+abbrev two : ℕ → ℕ → List ℕ
+two a b = a ∷ b ∷ []
+
+abbrev three : ℕ → ℕ → ℕ → List ℕ
+three a b c = a ∷ b ∷ c ∷ []
+
+abbrev four : ℕ → ℕ → ℕ → ℕ → List ℕ
+four a b c d = a ∷ b ∷ c ∷ d ∷ []
+
+abbrev six : ℕ → ℕ → ℕ → ℕ → ℕ → ℕ → List ℕ
+six a b c d e f = a ∷ b ∷ c ∷ d ∷ e ∷ f ∷ []
+
+-- each number four times: pages of four bytes
+abbrev fill : List ℕ → List ℕ
+fill [] = []
+fill (x ∷ xs) = four x x x x ++ fill xs
+
+-- an empty map word
+abbrev none : ℕ
+none = 0xFFFFFFFF
+
+-- replies: a count; a refusal number; a count, and what is in the buffer
+abbrev moved : ℕ → Reply
+moved m = record { answer = pos m; buffer = [] }
+
+abbrev refused : ℕ → Reply
+refused c = record { answer = negsuc (c - 1); buffer = [] }
+
+abbrev shows : ℕ → List ℕ → Reply
+shows m b = record { answer = pos m; buffer = b }
+
+-- The calls, each with scratch of the right sizes: bytes put at a sector, a whole page of bytes x, bytes got, the three collections, a checkpoint
+-- into 66 bytes of 9, a restore.
+abbrev put : ℕ → List ℕ → Geometry → Call
+put sector d G = Write sector (length d) d (zeros (G .s) ∷ zeros (G .n + G .p) ∷ [])
+
+abbrev page : ℕ → ℕ → Geometry → Call
+page l x G = put (l * G .s) (replicate (G .s) x) G
+
+abbrev get : ℕ → ℕ → Geometry → Call
+get sector len G = Read sector len (zeros len) (zeros (G .n + G .p) ∷ [])
+
+abbrev scratch : Geometry → List (List ℕ)
+scratch G = zeros (G .s) ∷ zeros (G .n + G .p) ∷ zeros (G .n) ∷ []
+
+abbrev gc : Geometry → Call
+gc G = Collect (scratch G)
+
+abbrev gcList : ℕ → Geometry → Call
+gcList m G = CollectList m (scratch G)
+
+abbrev gcBelow : ℕ → ℕ → Geometry → Call
+gcBelow threshold m G = CollectThreshold threshold m (scratch G)
+
+abbrev save : Geometry → Call
+save G = Encode (replicate 66 9) (zeros (G .n + G .p) ∷ [])
+
+abbrev load : (Geometry → List ℕ) → Geometry → Call
+load b G = Restore (b G) (zeros (pages G) ∷ [])
+
+abbrev formats : Geometry → Call
+formats G = Format
+
+abbrev opens : Geometry → Call
+opens G = Open
+
+-- the file of this allocation segment, map and free counts, and the same with its CRC spoiled
+abbrev saved : ℕ → List ℕ → List ℕ → Geometry → List ℕ
+saved alloc entries free G = file G alloc (entries ++ free)
+
+abbrev spoiled : ℕ → List ℕ → List ℕ → Geometry → List ℕ
+spoiled alloc entries free G = let b = saved alloc entries free G in set b 40 ((getD b 40 0 + 1) % 256)
+
+-- "Device A: n 2, p 2, s 4, w 1, e 3, erase limit 5", and with others of n, p, w and the limit
+abbrev like-A : (n p w limit : ℕ) → Geometry
+like-A n p w limit = record { n = n; p = p; s = 4; w = w; e = 3; limit = limit }
+
+abbrev A : Geometry
+A = like-A 2 2 1 5
+
+abbrev A3 : Geometry
+A3 = like-A 3 2 1 5
+
+-- memory that holds these tables and this flash; memory all zero, with an endless fuse
+abbrev mem : Tables → Flash → Recorder
+mem t f = recorder (packed t) (t .used) f
+
+abbrev zeroed : Geometry → Recorder
+zeroed G =
+    recorder
+    (zeros (tabWords G))
+    (zeros (pages G))
+    (flash (zeros (pages G * G .s)) (zeros (pages G)) (zeros (G .n)) endless)
+
+-- a row; one of a device "fresh on formatted flash"
+abbrev row : Geometry → Recorder → List (Geometry → Call) → List Reply → Recorder → Row
+row G r cs rs end = record { device = G; start = r; calls = cs; is = record { replies = rs; left = end } }
+
+abbrev new : Geometry → List (Geometry → Call) → List Reply → Recorder → Row
+new G cs rs end = row G (zeroed G) (formats ∷ opens ∷ cs) (moved 0 ∷ moved 0 ∷ rs) end
+
+-- ---- memory that more than one row shows
+-- Tables are written as map, free counts, valid counts, use marks, lists, their lengths, queue, flags, allocation segment, length of the queue;
+-- flash as bytes, marks, erase counts, fuse.
+
+-- device A fresh
+untouched : Recorder
+untouched =
+    mem
+    (tables (three none none none) (two 2 2) (two 0 0) (four 0 0 0 0) (four 0 0 0 0) (two 0 0) (two 0 0) (two 0 0) 0 0)
+    (flash (fill (four 255 255 255 255)) (four 0 0 0 0) (two 0 0) endless)
+
+-- and with its logical page 0 written, all bytes 1
+started : Recorder
+started =
+    mem
+    (tables (three 0 none none) (two 1 2) (two 1 0) (four 1 0 0 0) (four 0 0 0 0) (two 1 0) (two 0 0) (two 0 0) 0 0)
+    (flash (fill (four 1 255 255 255)) (four 1 0 0 0) (two 0 0) endless)
+
+-- E4: page 1 at address 1; segment 0 off the queue, its flag set
+full : Recorder
+full =
+    mem
+    (tables (three 3 1 2) (two 0 0) (two 1 2) (four 1 1 1 1) (four 1 0 2 0) (two 1 2) (two 0 0) (two 1 0) 1 0)
+    (flash (fill (four 1 2 3 4)) (four 1 1 1 1) (two 0 0) endless)
+
+-- E7, by these calls: the queue is 2, 1, and their valid counts are 1, 1; then with segment 2 collected; then with segment 1 as well
+queueing : List (Geometry → Call)
+queueing = page 0 1 ∷ page 1 2 ∷ page 2 3 ∷ page 0 4 ∷ gc ∷ page 2 5 ∷ page 1 6 ∷ []
+
+queueing-replies : List Reply
+queueing-replies = moved 4 ∷ moved 4 ∷ moved 4 ∷ moved 4 ∷ moved 0 ∷ moved 4 ∷ moved 4 ∷ []
+
+both : Recorder
+both =
+    mem
+    (tables (three 3 0 5) (three 1 0 0) (three 1 1 1) (six 1 0 1 1 1 1) (six 1 0 0 0 2 0) (three 1 1 1) (three 2 1 0) (three 0 1 1) 0 2)
+    (flash (fill (six 6 255 3 4 2 5)) (six 1 0 1 1 1 1) (three 1 0 0) endless)
+
+one : Recorder
+one =
+    mem
+    (tables (three 3 0 1) (three 0 0 2) (three 2 1 0) (six 1 1 1 1 0 0) (six 1 2 0 0 0 0) (three 2 1 0) (three 1 0 0) (three 0 1 0) 0 1)
+    (flash (fill (six 6 5 3 4 255 255)) (six 1 1 1 1 0 0) (three 1 0 1) endless)
+
+neither : Recorder
+neither =
+    mem
+    (tables (three 4 0 1) (three 0 2 1) (three 2 0 1) (six 1 1 0 0 1 0) (six 1 2 0 0 0 0) (three 2 0 1) (three 0 0 0) (three 0 0 0) 2 0)
+    (flash (fill (six 6 5 255 255 4 255)) (six 1 1 0 0 1 0) (three 1 1 1) endless)
+
+-- device A with no sense in its tables, and flash that was never formatted, with counts 3 and 4
+litter : ℕ → Tables
+litter alloc = tables (three 9 9 9) (two 9 9) (two 9 9) (four 9 9 9 9) (four 9 9 9 9) (two 9 9) (two 9 9) (two 9 9) alloc 9
+
+worn : ℕ → Flash
+worn fuse = flash (fill (four 7 7 7 7)) (four 1 1 1 1) (two 3 4) fuse
+
+-- ---- the table
+
+table : List Row
+unfolding untouched started full queueing queueing-replies both one neither litter worn
+table =
+    -- formatted and opened
+    new A [] [] untouched
+    -- E1 length 0 at sector 0: answers 0; logical page 0 at address 0, four zero bytes
+    ∷ new A
+    (put 0 [] ∷ [])
+    (moved 0 ∷ [])
+    (mem
+    (tables (three 0 none none) (two 1 2) (two 1 0) (four 1 0 0 0) (four 0 0 0 0) (two 1 0) (two 0 0) (two 0 0) 0 0)
+    (flash (fill (four 0 255 255 255)) (four 1 0 0 0) (two 0 0) endless))
+    -- E2 sector 1 length 3 accepted; length 4 gets 22
+    ∷ new A
+    (put 1 (three 7 7 7) ∷ [])
+    (moved 3 ∷ [])
+    (mem
+    (tables (three 0 none none) (two 1 2) (two 1 0) (four 1 0 0 0) (four 0 0 0 0) (two 1 0) (two 0 0) (two 0 0) 0 0)
+    (flash (four 0 7 7 7 ++ fill (three 255 255 255)) (four 1 0 0 0) (two 0 0) endless))
+    ∷ new A (put 1 (four 7 7 7 7) ∷ []) (refused 22 ∷ []) untouched
+    -- E3 sector 11 length 1 accepted; sector 12 gets 22
+    ∷ new A
+    (put 11 (9 ∷ []) ∷ [])
+    (moved 1 ∷ [])
+    (mem
+    (tables (three none none 0) (two 1 2) (two 1 0) (four 1 0 0 0) (four 2 0 0 0) (two 1 0) (two 0 0) (two 0 0) 0 0)
+    (flash (four 0 0 0 9 ++ fill (three 255 255 255)) (four 1 0 0 0) (two 0 0) endless))
+    ∷ new A (put 12 (9 ∷ []) ∷ []) (refused 22 ∷ []) untouched
+    -- E4 whole pages 0, 1, 2, 0 written, then collect: 14; page 1 still at address 1
+    ∷ new A
+    (page 0 1 ∷ page 1 2 ∷ page 2 3 ∷ page 0 4 ∷ gc ∷ [])
+    (moved 4 ∷ moved 4 ∷ moved 4 ∷ moved 4 ∷ refused 14 ∷ [])
+    full
+    -- E5 collect again: 0, nothing changed
+    ∷ new A
+    (page 0 1 ∷ page 1 2 ∷ page 2 3 ∷ page 0 4 ∷ gc ∷ gc ∷ [])
+    (moved 4 ∷ moved 4 ∷ moved 4 ∷ moved 4 ∷ refused 14 ∷ moved 0 ∷ [])
+    full
+    -- E6 p 3, w 2 instead; pages 0, 0, 1: segment 0 is full with a dead page, its first, and not queued
+    ∷ new (like-A 2 3 2 5)
+    (page 0 1 ∷ page 0 2 ∷ page 1 3 ∷ [])
+    (moved 4 ∷ moved 4 ∷ moved 4 ∷ [])
+    (mem
+    (tables (three 1 2 none) (two 0 3) (two 2 0) (six 1 1 1 0 0 0) (six 0 1 0 0 0 0) (two 2 0) (two 0 0) (two 0 0) 0 0)
+    (flash (fill (six 1 2 3 255 255 255)) (six 1 1 1 0 0 0) (two 0 0) endless))
+    -- E7 n 3 instead; queue 2, 1 with equal valid counts: victim 2
+    ∷ new A3 queueing queueing-replies both
+    ∷ new A3 (queueing ++ (gc ∷ [])) (queueing-replies ++ (moved 0 ∷ [])) one
+    -- from the list: no pass; one, counted; two, of which the one that drains the queue is not counted
+    ∷ new A3 (queueing ++ (gcList 0 ∷ [])) (queueing-replies ++ (moved 0 ∷ [])) both
+    ∷ new A3 (queueing ++ (gcList 1 ∷ [])) (queueing-replies ++ (moved 1 ∷ [])) one
+    ∷ new A3 (queueing ++ (gcList 2 ∷ [])) (queueing-replies ++ (moved 1 ∷ [])) neither
+    ∷ new A3 (queueing ++ (gcList 9 ∷ [])) (queueing-replies ++ (moved 1 ∷ [])) neither
+    -- with a threshold: total free is 1, above 0 and not above 1
+    ∷ new A3 (queueing ++ (gcBelow 0 9 ∷ [])) (queueing-replies ++ (moved 0 ∷ [])) both
+    ∷ new A3 (queueing ++ (gcBelow 1 9 ∷ [])) (queueing-replies ++ (moved 1 ∷ [])) neither
+    -- an erase refused, the limit being 0: all copied; victim off the queue, flag set, not reset
+    ∷ new (like-A 2 2 1 0)
+    (page 0 1 ∷ page 0 2 ∷ gc ∷ [])
+    (moved 4 ∷ moved 4 ∷ refused 5 ∷ [])
+    (mem
+    (tables (three 2 none none) (two 0 1) (two 0 1) (four 1 1 1 0) (four 0 0 0 0) (two 0 1) (two 0 0) (two 1 0) 1 0)
+    (flash (fill (four 1 2 2 255)) (four 1 1 1 0) (two 0 0) endless))
+    -- E8 restore map 0, 0, 1 with free 1, 2: map 0, empty, empty
+    ∷ new A
+    (load (saved 0 (three 0 0 1) (two 1 2)) ∷ [])
+    (moved 0 ∷ [])
+    (mem
+    (tables (three 0 none none) (two 1 2) (two 1 0) (four 1 0 0 0) (four 0 0 0 0) (two 1 0) (two 0 0) (two 0 0) 0 0)
+    (flash (fill (four 255 255 255 255)) (four 0 0 0 0) (two 0 0) endless))
+    -- E9 restore free 2 accepted, 3 gets reason 9; allocation segment 2 gets 8; with a bad CRC as well, 7
+    ∷ new A
+    (page 0 1 ∷ load (saved 1 (three none 2 none) (two 2 1)) ∷ [])
+    (moved 4 ∷ moved 0 ∷ [])
+    (mem
+    (tables (three none 2 none) (two 2 1) (two 0 1) (four 0 0 1 0) (four 0 0 1 0) (two 0 1) (two 0 0) (two 0 0) 1 0)
+    (flash (fill (four 1 255 255 255)) (four 1 0 0 0) (two 0 0) endless))
+    ∷ new A (page 0 1 ∷ load (saved 1 (three none 2 none) (two 3 1)) ∷ []) (moved 4 ∷ refused 9 ∷ []) started
+    ∷ new A (page 0 1 ∷ load (saved 2 (three none 2 none) (two 3 1)) ∷ []) (moved 4 ∷ refused 8 ∷ []) started
+    ∷ new A (page 0 1 ∷ load (spoiled 2 (three none 2 none) (two 3 1)) ∷ []) (moved 4 ∷ refused 7 ∷ []) started
+    -- E10 checkpoint of A: 64 bytes; the buffer's two beyond stay
+    ∷ new A
+    (save ∷ [])
+    (shows 64
+    (four 0x43 0x54 0x46 0x50 ++ four 1 0 0 0
+    ++ four 0 0 0 0 ++ four 0 0 0 0 ++ four 2 0 0 0 ++ four 0 0 0 0 ++ four 2 0 0 0 ++ four 0 0 0 0 ++ four 3 0 0 0 ++ four 0 0 0 0
+    ++ four 0xA7 0xD4 0x8E 0xA2
+    ++ four 255 255 255 255 ++ four 255 255 255 255 ++ four 255 255 255 255 ++ four 2 0 0 0 ++ four 2 0 0 0 ++ two 9 9)
+    ∷ [])
+    untouched
+    -- the trace; its map is 1.1 1.0 -
+    ∷ new (like-A 3 2 1 10)
+    (put 0 (two 0x61 0x62) ∷ put 1 (0x63 ∷ []) ∷ put 4 (four 0x77 0x78 0x79 0x7A) ∷ gc ∷ get 0 4 ∷ put 12 (0x21 ∷ []) ∷ [])
+    (moved 2 ∷ moved 1 ∷ moved 4 ∷ moved 0 ∷ shows 4 (four 0x61 0x63 0 0) ∷ refused 22 ∷ [])
+    (mem
+    (tables (three 3 2 none) (three 2 0 2) (three 0 2 0) (six 0 0 1 1 0 0) (six 0 0 1 0 0 0) (three 0 2 0) (three 0 0 0) (three 0 0 0) 1 0)
+    (flash
+    (fill (two 255 255) ++ four 0x77 0x78 0x79 0x7A ++ four 0x61 0x63 0 0 ++ fill (two 255 255))
+    (six 0 0 1 1 0 0) (three 1 0 0) endless))
+    -- opening keeps an allocation segment below n and sets another to 0; it leaves the flash
+    ∷ row A (mem (litter 1) (worn endless))
+    (opens ∷ [])
+    (moved 0 ∷ [])
+    (mem
+    (tables (three none none none) (two 2 2) (two 0 0) (four 0 0 0 0) (four 0 0 0 0) (two 0 0) (two 0 0) (two 0 0) 1 0)
+    (worn endless))
+    ∷ row A (mem (litter 5) (worn endless))
+    (opens ∷ [])
+    (moved 0 ∷ [])
+    (mem
+    (tables (three none none none) (two 2 2) (two 0 0) (four 0 0 0 0) (four 0 0 0 0) (two 0 0) (two 0 0) (two 0 0) 0 0)
+    (worn endless))
+    -- formatting with fuse 1: segment 1 keeps its bytes, marks and count; tables stay
+    ∷ row A (mem (litter 1) (worn 1))
+    (formats ∷ [])
+    (moved 0 ∷ [])
+    (mem (litter 1) (flash (fill (four 255 255 7 7)) (four 0 0 1 1) (two 0 4) 0))
+    ∷ []
+
+examples : map seen table ≡ map (λ r. r .is) table
+unfolding seen table
+examples = refl
