@@ -1,6 +1,6 @@
 -- The address fact, once over w: an address gives its segment and its page back, different pages have different addresses, and every
 -- address lies below the empty word.
-use Prim.Native.Nat.{ℕ, _+_, _*_, _^_, _≤_, _<_}
+use Prim.Native.Nat.{ℕ, _*_, _^_, _≤_, _<_}
 use native.Mathlib.Nat.{mul-le-mul, div-add-mod', le-div-iff-mul-le}
 use native.Mathlib.Omega.{arith}
 use lib.Pow.{pow-mono, pow-pos}

@@ -1,123 +1,70 @@
 -- Tables with nothing mapped are sound: fresh ones, and those that a restore starts from.
 use Prim.Native.Nat.{ℕ, zero, suc, _+_, _*_, _-_, _≤_, _<_}
+use native.Mathlib.Nat.{zero-mul}
 use native.Mathlib.Omega.{arith}
-use native.Mathlib.Nat.{suc-mul, zero-mul}
-use mathlib.Core.Path.{_≡_, refl, sym, ap, _∙_, subst}
+use mathlib.Core.Path.{_≡_, refl, sym, ap, _∙_}
 use mathlib.Core.Bool.{Bool, true, false, cond}
-use mathlib.Core.Logic.{_⊎_, inl, inr, _≢_}
 use mathlib.Core.List.{List, [], _∷_, _++_}
 use lib.Dec.{ltb}
-use lib.ListN.{length, getD, take, drop, replicate, length-append, length-replicate, getD-replicate, List·getD-append, List·getD-eq-default}
-use lib.Seq.{getD-append-add, take-nil, drop-drop}
+use lib.ListN.{length, getD, take, replicate, length-append, length-replicate, getD-replicate, List·getD-append}
+use lib.Seq.{getD-append-add}
 use borrow.Author.Tests.{ltb-true}
-use Rattle.model.specs.Lists.{occ, slot}
+use Rattle.model.specs.Lists.{slot, zeros}
 use Rattle.model.specs.Numbers.{Geometry, Good, empty}
-use Rattle.model.specs.Tables.{Tables, listOf, queueOf}
-use Rattle.model.specs.Sound.{names}
+use Rattle.model.specs.Tables.{at}
 use Rattle.model.specs.Checkpoint.{bare, opened, usedBy}
-use Rattle.model.specs.Contract.{Fit}
-use Rattle.model.proofs.Working.{Counted, Sized}
-use Rattle.model.proofs.Slots.{less?}
-use Rattle.model.proofs.Unlink.{names-empty}
+use Rattle.model.proofs.Working.{Counted}
+use Rattle.model.proofs.Slots.{by-end, past-end, part-fits, drop-zeros, take-zeros}
+use Rattle.model.proofs.Counts.{occ-nil}
+use Rattle.model.proofs.Reading.{names-empty}
+pub use Rattle.model.proofs.Slots.{at-replicate, same-replicate}
 
-pub at-replicate : (n a d i : ℕ) → (i < n → a ≡ d) → getD (replicate n a) i d ≡ d
-at-replicate n a d i h = go (less? i n)
-  where
-    go : (i < n) ⊎ (n ≤ i) → getD (replicate n a) i d ≡ d
-    go (inl b) = getD-replicate n i a d b ∙ h b
-    go (inr b) = List·getD-eq-default (replicate n a) d {n = i} (rw (length-replicate n a) b)
-
-pub same-replicate : (n a i : ℕ) → getD (replicate n a) i a ≡ a
-same-replicate n a i = at-replicate n a a i (λ _. refl)
-
-slot-zeros : (p g m : ℕ) → g * p + p ≤ m → slot p g (replicate m 0) ≡ replicate p 0
+slot-zeros : (p g m : ℕ) → g * p + p ≤ m → slot p g (zeros m) ≡ zeros p
 slot-zeros p g m h = ap (take p) (drop-zeros (g * p) m) ∙ take-zeros p (m - g * p) (omega arith)
-  where
-    drop-zeros : (k m : ℕ) → drop {A = ℕ} k (replicate m 0) ≡ replicate (m - k) 0
-    drop-zeros zero m = ap (λ x. replicate {A = ℕ} x 0) (zero-out m)
-      where
-        zero-out : (m : ℕ) → m ≡ m - 0
-        zero-out m = omega arith
-    drop-zeros (suc k) zero = ap (λ x. replicate {A = ℕ} x 0) (none (suc k))
-      where
-        none : (k : ℕ) → 0 ≡ 0 - k
-        none k = omega arith
-    drop-zeros (suc k) (suc m) = drop-zeros k m ∙ ap (λ x. replicate {A = ℕ} x 0) (both m k)
-      where
-        both : (m k : ℕ) → m - k ≡ suc m - suc k
-        both m k = omega arith
 
-    take-zeros : (k m : ℕ) → k ≤ m → take {A = ℕ} k (replicate m 0) ≡ replicate k 0
-    take-zeros zero m h = refl
-    take-zeros (suc k) zero h = absurd (no-more h)
-      where
-        no-more : suc k ≤ 0 → ⊥
-        no-more b = omega arith
-    take-zeros (suc k) (suc m) h = ap (λ r. 0 ∷ r) (take-zeros k m (omega arith))
-
-occ-zeros : (x : ℕ) → occ x [] ≡ 0
-unfolding occ
-occ-zeros x = refl
-
--- the use marks
+-- the use marks of a segment with x free pages
 chunk : ℕ → ℕ → List ℕ
-chunk p x = replicate (p - x) 1 ++ replicate x 0
+chunk p x = replicate (p - x) 1 ++ zeros x
 
 chunk-length : (p x : ℕ) → x ≤ p → length (chunk p x) ≡ p
 unfolding chunk
-chunk-length p x h = length-append (replicate (p - x) 1) (replicate x 0) ∙ both (length-replicate (p - x) 1) (length-replicate x 0)
-  where
-    both : {a b : ℕ} → a ≡ p - x → b ≡ x → a + b ≡ p
-    both e f = omega arith
+chunk-length p x h = simp (length-append, length-replicate) (omega arith)
 
-used-at : (p : ℕ) (free : List ℕ) → ((g : ℕ) → getD free g 0 ≤ p) → (g k : ℕ) → g < length free → k < p
-    → getD (usedBy p free) (g * p + k) 0 ≡ getD (chunk p (getD free g 0)) k 0
-unfolding usedBy chunk
-used-at p [] h g k hg hk = absurd (none hg)
-  where
-    none : g < 0 → ⊥
-    none b = omega arith
-used-at p (x ∷ xs) h zero k hg hk =
-    ap (λ i. getD (chunk p x ++ usedBy p xs) i 0) (start k) ∙ List·getD-append (chunk p x) (usedBy p xs) 0 k (rw (chunk-length p x (h 0)) hk)
-  where
-    start : (k : ℕ) → 0 * p + k ≡ k
-    start k = omega arith
-used-at p (x ∷ xs) h (suc g) k hg hk =
-    ap (λ i. getD (chunk p x ++ usedBy p xs) i 0) (shift (chunk-length p x (h 0)))
-    ∙ getD-append-add (chunk p x) (usedBy p xs) (g * p + k) 0
-    ∙ used-at p xs (λ j. h (suc j)) g k (omega arith) hk
-  where
-    shift : {c : ℕ} → c ≡ p → suc g * p + k ≡ c + (g * p + k)
-    shift e = omega arith
-
-used-length : (p : ℕ) (free : List ℕ) → ((g : ℕ) → getD free g 0 ≤ p) → length (usedBy p free) ≡ length free * p
-unfolding usedBy chunk
-used-length p [] h = sym (zero-mul p)
-used-length p (x ∷ xs) h =
-    length-append (chunk p x) (usedBy p xs)
-    ∙ both (length xs) (chunk-length p x (h 0)) (used-length p xs (λ j. h (suc j)))
-  where
-    both : {a b : ℕ} (c : ℕ) → a ≡ p → b ≡ c * p → a + b ≡ suc c * p
-    both c e f = omega arith
-
-chunk-one : (p x k : ℕ) → x ≤ p → k + x < p → getD (chunk p x) k 0 ≡ 1
+chunk-one : (p x k : ℕ) → x ≤ p → k + x < p → at (chunk p x) k ≡ 1
 unfolding chunk
 chunk-one p x k h b =
     let c : k < p - x = omega arith in
-    List·getD-append (replicate (p - x) 1) (replicate x 0) 0 k (rw (length-replicate {A = ℕ} (p - x) 1) c) ∙ getD-replicate (p - x) k 1 0 c
+    List·getD-append (replicate (p - x) 1) (zeros x) 0 k (rw (length-replicate {A = ℕ} (p - x) 1) c) ∙ getD-replicate (p - x) k 1 0 c
 
-chunk-zero : (p x k : ℕ) → x ≤ p → p ≤ k + x → getD (chunk p x) k 0 ≡ 0
+chunk-zero : (p x k : ℕ) → x ≤ p → p ≤ k + x → at (chunk p x) k ≡ 0
 unfolding chunk
 chunk-zero p x k h b =
-    ap (λ i. getD (replicate (p - x) 1 ++ replicate x 0) i 0) (shift (length-replicate (p - x) 1))
-    ∙ getD-append-add (replicate (p - x) 1) (replicate x 0) (k - (p - x)) 0
-    ∙ same-replicate x 0 (k - (p - x))
-  where
-    shift : {c : ℕ} → c ≡ p - x → k ≡ c + (k - (p - x))
-    shift e = omega arith
+    let e : k ≡ length (replicate {A = ℕ} (p - x) 1) + (k - (p - x)) = omega (arith, length-replicate {A = ℕ} (p - x) 1) in
+    ap (at (chunk p x)) e ∙ getD-append-add (replicate (p - x) 1) (zeros x) (k - (p - x)) 0 ∙ same-replicate x 0 (k - (p - x))
 
-pub bare-sound : (G : Geometry) (free : List ℕ) (alloc : ℕ) → length free ≡ G.n → ((g : ℕ) → getD free g 0 ≤ G.p) → alloc < G.n → Counted G (bare G free alloc)
-bare-sound G free alloc len le at =
+-- all use marks, segment by segment
+used-at : (p : ℕ) (free : List ℕ) → ((g : ℕ) → at free g ≤ p) → (g k : ℕ) → g < length free → k < p
+    → at (usedBy p free) (g * p + k) ≡ at (chunk p (at free g)) k
+unfolding usedBy chunk
+used-at p [] h g k hg hk = absurd (omega arith)
+used-at p (x ∷ xs) h zero k hg hk =
+    let e : 0 * p + k ≡ k = omega arith in
+    ap (at (chunk p x ++ usedBy p xs)) e ∙ List·getD-append (chunk p x) (usedBy p xs) 0 k (rw (chunk-length p x (h 0)) hk)
+used-at p (x ∷ xs) h (suc g) k hg hk =
+    let e : suc g * p + k ≡ length (chunk p x) + (g * p + k) = omega (arith, chunk-length p x (h 0)) in
+    ap (at (chunk p x ++ usedBy p xs)) e
+    ∙ getD-append-add (chunk p x) (usedBy p xs) (g * p + k) 0
+    ∙ used-at p xs (λ j. h (suc j)) g k (omega arith) hk
+
+used-length : (p : ℕ) (free : List ℕ) → ((g : ℕ) → at free g ≤ p) → length (usedBy p free) ≡ length free * p
+unfolding usedBy chunk
+used-length p [] h = sym (zero-mul p)
+used-length p (x ∷ xs) h =
+    length-append (chunk p x) (usedBy p xs) ∙ omega (arith, chunk-length p x (h 0), used-length p xs (λ j. h (suc j)))
+
+pub bare-sound : (G : Geometry) (free : List ℕ) (alloc : ℕ) → length free ≡ G.n → ((g : ℕ) → at free g ≤ G.p) → alloc < G.n
+    → Counted G (bare G free alloc)
+bare-sound G free alloc len le below =
     record {
       sized =
           record {
@@ -133,41 +80,40 @@ bare-sound G free alloc len le at =
       free≤ = le;
       marked = λ g k hg h. used-at G.p free le g k (rw len hg) (omega arith) ∙ chunk-one G.p _ k (le g) h;
       clear = λ g k hg hk h. used-at G.p free le g k (rw len hg) hk ∙ chunk-zero G.p _ k (le g) h;
-      lens≤ = λ g. omega (arith, same-replicate G.n 0 g);
-      valid≤ = λ g. omega (arith, same-replicate G.n 0 g, le g);
-      seg< = λ l m. absurd (m (same-replicate G.e empty l));
-      page< = λ l m. absurd (m (same-replicate G.e empty l));
-      apart = λ l x m. absurd (m (same-replicate G.e empty l));
-      listed = λ l g h. rw (same-replicate G.n 0 g, same-replicate G.e empty l) (occ-zeros l ∙ sym (names-empty G g));
-      tails = λ g h.
-          let q : G.p ≡ G.p - 0 = omega arith in
-          rw (same-replicate G.n 0 g) (slot-zeros G.p g (G.n * G.p) (fits g h) ∙ ap (λ x. replicate x 0) q);
-      once = λ g. rw (occ-zeros g) (omega arith);
-      flag≤ = λ g. omega (arith, same-replicate G.n 0 g);
+      lens≤ = λ g. omega (arith, zero g);
+      valid≤ = λ g. omega (arith, zero g, le g);
+      seg< = λ l m. absurd (m (unmapped l));
+      page< = λ l m. absurd (m (unmapped l));
+      apart = λ l x m. absurd (m (unmapped l));
+      listed = λ l g h. rw (zero g, unmapped l) (occ-nil l ∙ sym (names-empty G g));
+      tails = λ g h. rw (zero g) (slot-zeros G.p g (G.n * G.p) (part-fits G.p h) ∙ ap zeros (whole G.p));
+      once = λ g. rw (occ-nil g) (omega arith);
+      flag≤ = λ g. omega (arith, zero g);
       full = λ g h. absurd (never g h);
       queued≤ = omega arith;
-      behind = let q : G.n ≡ G.n - 0 = omega arith in ap (λ x. replicate x 0) q;
-      alloc< = at;
+      behind = ap zeros (whole G.n);
+      alloc< = below;
     }
   where
-    fits : (g : ℕ) → g < G.n → g * G.p + G.p ≤ G.n * G.p
-    fits g h = part G.p h
-      where
-        part : {g n : ℕ} (p : ℕ) → g < n → g * p + p ≤ n * p
-        part p b = omega (arith, native.Mathlib.Nat.mul-le-mul-right p b)
+    zero : (g : ℕ) → at (zeros G.n) g ≡ 0
+    zero = same-replicate G.n 0
 
-    never : (g : ℕ) → 0 < getD (replicate G.n 0) g 0 → ⊥
+    unmapped : (l : ℕ) → getD (replicate G.e empty) l empty ≡ empty
+    unmapped = same-replicate G.e empty
+
+    whole : (m : ℕ) → m ≡ m - 0
+    whole m = omega arith
+
+    never : (g : ℕ) → 0 < at (zeros G.n) g → ⊥
     never g h = omega (arith, same-replicate G.n 0 g)
 
 pub opened-sound : (G : Geometry) → Good G → (alloc : ℕ) → Counted G (opened G alloc)
-opened-sound G K alloc =
-    bare-sound G (replicate G.n G.p) _ (length-replicate G.n G.p)
-    (λ g. bound g (less? g G.n))
-    (go (ltb alloc G.n) refl)
+opened-sound G K alloc = bare-sound G (replicate G.n G.p) _ (length-replicate G.n G.p) bound (go (ltb alloc G.n) refl)
   where
-    bound : (g : ℕ) → (g < G.n) ⊎ (G.n ≤ g) → getD (replicate G.n G.p) g 0 ≤ G.p
-    bound g (inl b) = omega (arith, getD-replicate G.n g G.p 0 b)
-    bound g (inr b) = omega (arith, List·getD-eq-default (replicate G.n G.p) 0 {n = g} (rw (length-replicate G.n G.p) b))
+    bound : (g : ℕ) → at (replicate G.n G.p) g ≤ G.p
+    bound =
+        by-end (λ g. at (replicate G.n G.p) g ≤ G.p) G.n (λ g b. omega (arith, getD-replicate G.n g G.p 0 b))
+        (λ g b. omega (arith, past-end (replicate G.n G.p) G.n g (length-replicate G.n G.p) b))
 
     go : (b : Bool) → ltb alloc G.n ≡ b → cond b alloc 0 < G.n
     go true e = ltb-true _ _ e

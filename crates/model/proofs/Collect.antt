@@ -1,27 +1,27 @@
 -- A collection, finished or refused, keeps sound tables sound and changes no logical page's content.
-use Prim.Native.Nat.{ℕ, zero, suc, _+_, _*_, _-_, _≤_, _<_}
+use Prim.Native.Nat.{ℕ, zero, suc, _-_, _≤_, _<_}
 use native.Mathlib.Omega.{arith}
 use mathlib.Core.Path.{_≡_, refl, sym, ap, _∙_}
 use mathlib.Core.Bool.{Bool, true, false, cond}
-use mathlib.Core.Logic.{_⊎_, inl, inr, _≢_}
-use mathlib.Core.List.{List, [], _∷_, _++_}
+use mathlib.Core.Logic.{_≢_}
+use mathlib.Core.List.{List, []}
 use lib.Dec.{eqb, ltb}
 use lib.ListN.{length, getD}
-use lib.Seq.{getD-take, getD-set-other}
+use lib.Seq.{getD-set-other}
 use borrow.Author.Tests.{eqb-true, eqb-false}
-use Rattle.model.specs.Lists.{occ, slot, total}
+use Rattle.model.specs.Lists.{occ, total}
 use Rattle.model.specs.Numbers.{Geometry, Good, Answer, Moved, Refused, Erase, empty, segOf}
-use Rattle.model.specs.Tables.{Tables, at, wordOf, listOf, queueOf}
+use Rattle.model.specs.Tables.{Tables, at, wordOf, queueOf}
 use Rattle.model.specs.Sound.{Mapped, slotOf}
 use Rattle.model.specs.Device.{State, state, Out, out, mayErase, performAll, finish, refuse, behind, goOn, raised}
 use Rattle.model.specs.PageWrite.{content, holds, whole, oldPage, writePage}
-use Rattle.model.specs.PageGc.{victim, taken, copyAnswer, cleared, finishOf, lastOf, copyOne, drain, collectOf, collect, collectMore, collectList, collectThreshold}
+use Rattle.model.specs.PageGc.{victim, taken, copyAnswer, cleared, finishOf, lastOf, copyOne}
+use Rattle.model.specs.PageGc.{drain, collectOf, collect, collectMore, collectList, collectThreshold}
 use Rattle.model.specs.Contract.{Fit}
 use Rattle.model.proofs.Working.{Counted}
-use Rattle.model.proofs.Slots.{same?, slot-at}
-use Rattle.model.proofs.Counts.{occ-getD}
-use Rattle.model.proofs.Unlink.{mapped-lt, names-pos, list-length}
-use Rattle.model.proofs.Content.{content-same, content-mapped, splice-whole, page-length, blank-other, blank-fit}
+use Rattle.model.proofs.Slots.{by-same, mapped-lt, whole-splice}
+use Rattle.model.proofs.Reading.{stands, counted-list, list-mapped}
+use Rattle.model.proofs.Content.{content-same, content-mapped, page-length, blank-other, blank-fit}
 use Rattle.model.proofs.Ops.{Holds, Safe, safe-behind, perform-append}
 use Rattle.model.proofs.Write.{Own, Busy, Shorter, Wrote, wrote, old-length}
 use Rattle.model.proofs.Taken.{taken-sound, victim-flag, victim-full, victim-seg, victim-off}
@@ -58,8 +58,7 @@ kept-behind G st o o′ A B =
 
 -- the answer does not matter to what is kept
 kept-answer : (G : Geometry) (st : State) (o : Out) (a : Answer) → Kept G st o → Kept G st (out (o .st) a (o .ops))
-kept-answer G st o a k =
-    record { sound = k .sound; fit = k .fit; contents = k .contents; performs = k .performs; safe = k .safe }
+kept-answer G st o a k = search
 
 -- a drained list is empty, unless a copy was refused
 abbrev Emptied : Tables → ℕ → Answer → Type 0
@@ -77,19 +76,7 @@ module _ (G : Geometry) (v : ℕ) (seg : v < G.n) (t : Tables) (S : Counted G t)
 
   -- the last logical page of v's list is mapped into v
   pub last-in : Mapped t (lastOf G v t) × (segOf G (wordOf t (lastOf G v t)) ≡ v)
-  last-in = names-pos G _ v (rw (S .listed (slotOf G t v j) v seg) at here)
-    where
-      lt-len : j < at (t .lens) v
-      lt-len = omega arith
-
-      small : j < G.p
-      small = omega (arith, S .lens≤ v, S .valid≤ v)
-
-      is-last : getD (listOf G t v) j 0 ≡ slotOf G t v j
-      is-last = getD-take (at (t .lens) v) (slot G.p v (t .lists)) j 0 lt-len ∙ slot-at G.p v (t .lists) j 0 small
-
-      here : 0 < occ (slotOf G t v j) (listOf G t v)
-      here = rw is-last at (occ-getD (listOf G t v) j (omega (arith, list-length G t S v seg)))
+  last-in = list-mapped G t S (slotOf G t v j) v seg (stands (counted-list G t S v seg) j (omega arith))
 
 module _ (G : Geometry) (K : Good G) (bad : List ℕ) (v : ℕ) (seg : v < G.n) where
   -- one copy: the inner write of the last logical page, whole
@@ -113,7 +100,7 @@ module _ (G : Geometry) (K : Good G) (bad : List ℕ) (v : ℕ) (seg : v < G.n) 
     own-same : (a : Answer) → Own G st (o .st) l 0 (whole G st l) a → content G (o .st) l ≡ content G st l
     own-same (Moved k) own =
         own .1
-        ∙ ap holds (splice-whole G (whole G st l) (oldPage G st l) (length-whole ∙ sym (old-length G K st S F l)))
+        ∙ ap holds (whole-splice (whole G st l) (oldPage G st l) (length-whole ∙ sym (old-length G K st S F l)))
         ∙ sym (content-mapped G st l m)
     own-same (Refused r) own = own
 
@@ -122,14 +109,10 @@ module _ (G : Geometry) (K : Good G) (bad : List ℕ) (v : ℕ) (seg : v < G.n) 
         record {
           sound = W .sound;
           fit = W .fit;
-          contents = λ x. each x (same? x l);
+          contents = by-same (λ x. content G (o .st) x ≡ content G st x) l (own-same (o .answer) (W .own)) (W .others);
           performs = W .performs;
           safe = W .safe;
         }
-      where
-        each : (x : ℕ) → (x ≡ l) ⊎ (x ≢ l) → content G (o .st) x ≡ content G st x
-        each x (inl q) = rw q (own-same (o .answer) (W .own))
-        each x (inr n) = W .others x n
 
   -- v is full and its flag is set: what a drain from such a state must show
   abbrev Draining : State → Out → Type 0
@@ -189,7 +172,8 @@ module _ (G : Geometry) (K : Good G) (bad : List ℕ) (v : ℕ) (seg : v < G.n) 
             fit = blank-fit G (st .flash) F v (raised G v (st .flash)) seg;
             contents = λ x.
                 content-same G st (cleared G v st .st) x refl
-                (λ m. blank-other G (st .flash) F v (raised G v (st .flash)) seg _ _ (omega (arith, S .page< x m)) (not-here G (st .tab) S v seg bare x m));
+                (λ m.
+                blank-other G (st .flash) F v (raised G v (st .flash)) seg _ _ (omega (arith, S .page< x m)) (not-here G (st .tab) S v seg bare x m));
             performs = refl;
             safe = λ M H.
                 record {
@@ -227,13 +211,9 @@ module _ (G : Geometry) (K : Good G) (bad : List ℕ) (st : State) (S : Counted 
     -- taking the victim off the queue changes no page
     first : Kept G st d
     first =
-        record {
-          sound = D .kept .sound;
-          fit = D .kept .fit;
-          contents = λ x. D .kept .contents x ∙ content-same G st st₁ x refl (λ _. refl);
-          performs = D .kept .performs;
-          safe = D .kept .safe;
-        }
+        let k : Kept G st₁ d = D .kept in
+        let same : (x : ℕ) → content G (d .st) x ≡ content G st x = λ x. k .contents x ∙ content-same G st st₁ x refl (λ _. refl) in
+        search same
 
     then : (a : Answer) → Emptied (d .st .tab) v a → Kept G st (goOn a d (λ st′. finishOf G v st′))
     then (Moved m) bare =
@@ -265,7 +245,8 @@ module _ (G : Geometry) (K : Good G) (bad : List ℕ) where
       C : Kept G st o
       C = collected G K bad st S F
 
-      next : (b : Bool) → Kept G (o .st) (collectMore G bad m (suc c) (o .st)) → Kept G st (behind (o .ops) (cond b (finish c (o .st)) (collectMore G bad m (suc c) (o .st))))
+      next : (b : Bool) → Kept G (o .st) (collectMore G bad m (suc c) (o .st))
+          → Kept G st (behind (o .ops) (cond b (finish c (o .st)) (collectMore G bad m (suc c) (o .st))))
       next true I = kept-behind G st o _ C (kept-none G (o .st) (Moved c) (C .sound) (C .fit))
       next false I = kept-behind G st o _ C I
 
@@ -278,7 +259,8 @@ module _ (G : Geometry) (K : Good G) (bad : List ℕ) where
   unfolding collectList
   collected-list m st S F = collected-more m 0 st S F
 
-  pub collected-threshold : (threshold m : ℕ) (st : State) → Counted G (st .tab) → Fit G (st .flash) → Kept G st (collectThreshold G bad threshold m st)
+  pub collected-threshold : (threshold m : ℕ) (st : State) → Counted G (st .tab) → Fit G (st .flash)
+      → Kept G st (collectThreshold G bad threshold m st)
   unfolding collectThreshold
   collected-threshold threshold m st S F = go (ltb threshold (total (st .tab .free)))
     where

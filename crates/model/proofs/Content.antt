@@ -1,70 +1,49 @@
 -- What a logical page holds after a page was programmed or a segment erased elsewhere.
-use Prim.Native.Nat.{ℕ, zero, suc, _+_, _*_, _-_, _^_, _≤_, _<_}
+use Prim.Native.Nat.{ℕ, _+_, _*_, _≤_, _<_}
 use native.Mathlib.Nat.{mul-assoc}
-use native.Mathlib.Omega.{arith}
-use mathlib.Core.Path.{_≡_, refl, sym, ap, _∙_, subst}
-use mathlib.Core.Bool.{Bool, true, false, cond}
+use mathlib.Core.Path.{_≡_, sym, ap, _∙_}
 use mathlib.Core.Logic.{_⊎_, inl, inr, _≢_}
-use mathlib.Core.List.{List, [], _∷_, _++_}
-use lib.Dec.{eqb}
-use lib.ListN.{length, getD, take, drop, set, replicate, length-append, length-take, length-drop, length-set, length-replicate}
-use lib.Seq.{take-length, drop-length}
-use borrow.Author.Tests.{eqb-true, eqb-false, eq-eqb, ne-eqb}
-use Rattle.model.specs.Lists.{onSlot, slot, splice}
-use Rattle.model.specs.Numbers.{Geometry, Good, addr, empty, flat, pageOf, segOf}
-use Rattle.model.specs.Tables.{Tables}
+use mathlib.Core.List.{List}
+use lib.ListN.{length, set, replicate, length-set, length-replicate}
+use borrow.Author.Tests.{eq-eqb, ne-eqb}
+use Rattle.model.specs.Lists.{onSlot, slot, splice, zeros}
+use Rattle.model.specs.Numbers.{Geometry, empty}
+use Rattle.model.specs.Tables.{wordOf}
+use Rattle.model.specs.Sound.{Mapped}
 use Rattle.model.specs.Device.{Flash, flash, State, burn, blanked, pageAt, programmed}
 use Rattle.model.specs.PageWrite.{nothing, holds, whole, content, oldPage}
 use Rattle.model.specs.Contract.{Fit}
-use Rattle.model.proofs.Working.{Counted}
-use Rattle.model.proofs.Slots.{same?, part-fits, below-part, slot-length, onSlot-length, onSlot-same, onSlot-other, slot-slot, place-inj-seg, place-inj-page}
-use Rattle.model.proofs.Address.{addr-seg, addr-page}
+use Rattle.model.proofs.Slots.{same?, part-fits, below-part, slot-length, onSlot-length}
+use Rattle.model.proofs.Slots.{onSlot-same, onSlot-other, slot-slot, length-splice, whole-splice}
 
 module _ (G : Geometry) where
-  pub content-empty : (st : State) (l : ℕ) → getD (st .tab .map) l empty ≡ empty → content G st l ≡ nothing
+  -- a page that is not mapped, and one that is
+  pub content-empty : (st : State) (l : ℕ) → wordOf (st .tab) l ≡ empty → content G st l ≡ nothing
   unfolding content
   content-empty st l e = rw (eq-eqb _ _ e)
 
-  pub content-mapped : (st : State) (l : ℕ) → getD (st .tab .map) l empty ≢ empty → content G st l ≡ holds (whole G st l)
+  pub content-mapped : (st : State) (l : ℕ) → Mapped (st .tab) l → content G st l ≡ holds (whole G st l)
   unfolding content
   content-mapped st l h = rw (ne-eqb _ _ h)
 
-  pub old-empty : (st : State) (l : ℕ) → getD (st .tab .map) l empty ≡ empty → oldPage G st l ≡ replicate G.s 0
+  pub old-empty : (st : State) (l : ℕ) → wordOf (st .tab) l ≡ empty → oldPage G st l ≡ zeros G.s
   unfolding oldPage
   old-empty st l e = rw (eq-eqb _ _ e)
 
-  pub old-mapped : (st : State) (l : ℕ) → getD (st .tab .map) l empty ≢ empty → oldPage G st l ≡ pageAt G (st .flash) (getD (st .tab .map) l empty)
+  pub old-mapped : (st : State) (l : ℕ) → Mapped (st .tab) l → oldPage G st l ≡ whole G st l
   unfolding oldPage
   old-mapped st l h = rw (ne-eqb _ _ h)
 
   -- the same word in the map, and the same bytes there
-  pub content-same : (st st′ : State) (l : ℕ) → getD (st′ .tab .map) l empty ≡ getD (st .tab .map) l empty
-      → (getD (st .tab .map) l empty ≢ empty → pageAt G (st′ .flash) (getD (st .tab .map) l empty) ≡ pageAt G (st .flash) (getD (st .tab .map) l empty))
+  pub content-same : (st st′ : State) (l : ℕ) → wordOf (st′ .tab) l ≡ wordOf (st .tab) l
+      → (Mapped (st .tab) l → pageAt G (st′ .flash) (wordOf (st .tab) l) ≡ pageAt G (st .flash) (wordOf (st .tab) l))
       → content G st′ l ≡ content G st l
-  content-same st st′ l e h = go (same? (getD (st .tab .map) l empty) empty)
+  content-same st st′ l e h = go (same? (wordOf (st .tab) l) empty)
     where
-      go : (getD (st .tab .map) l empty ≡ empty) ⊎ (getD (st .tab .map) l empty ≢ empty) → content G st′ l ≡ content G st l
+      go : (wordOf (st .tab) l ≡ empty) ⊎ Mapped (st .tab) l → content G st′ l ≡ content G st l
       go (inl z) = content-empty st′ l (e ∙ z) ∙ sym (content-empty st l z)
       go (inr n) =
           content-mapped st′ l (λ q. n (sym e ∙ q)) ∙ ap holds (ap (pageAt G (st′ .flash)) e ∙ h n) ∙ sym (content-mapped st l n)
-
-  pub splice-length : (off : ℕ) (d xs : List ℕ) → off + length d ≤ length xs → length (splice off d xs) ≡ length xs
-  unfolding splice
-  splice-length off d xs h = simp (length-append, length-take, length-drop) (omega arith)
-
-  pub splice-whole : (d xs : List ℕ) → length d ≡ length xs → splice 0 d xs ≡ d
-  unfolding splice
-  splice-whole d xs e = rest (ap (λ m. drop m xs) (sum ∙ e) ∙ drop-length xs)
-    where
-      sum : 0 + length d ≡ length d
-      sum = omega arith
-
-      rest : drop (0 + length d) xs ≡ [] → d ++ drop (0 + length d) xs ≡ d
-      rest q = ap (λ z. d ++ z) q ∙ append-nil d
-        where
-          append-nil : (a : List ℕ) → a ++ [] ≡ a
-          append-nil [] = refl
-          append-nil (x ∷ a) = ap (λ r. x ∷ r) (append-nil a)
 
   -- bytes of page g k within the flash
   page-fits : (f : Flash) → Fit G f → {g k : ℕ} → g < G.n → k < G.p → (g * G.p + k) * G.s + G.s ≤ length (f .bytes)
@@ -110,9 +89,17 @@ module _ (G : Geometry) where
           counts = length-set (f .counts) g c ∙ F .counts;
         }
 
+  -- an erase
   module _ (f : Flash) (F : Fit G f) (g c : ℕ) (hg : g < G.n) where
     pub blank-other : (j k : ℕ) → k < G.p → j ≢ g → slot G.s (j * G.p + k) (blanked G g c f .bytes) ≡ slot G.s (j * G.p + k) (f .bytes)
     blank-other = segment-other f F g hg (replicate (G.p * G.s) 255) (length-replicate (G.p * G.s) 255)
 
     pub blank-fit : Fit G (blanked G g c f)
-    blank-fit = segment-fit f F g hg (replicate (G.p * G.s) 255) (length-replicate (G.p * G.s) 255) (replicate G.p 0) c (burn (f .fuse)) (length-replicate G.p 0)
+    blank-fit =
+        segment-fit f F g hg (replicate (G.p * G.s) 255) (length-replicate (G.p * G.s) 255) (zeros G.p) c (burn (f .fuse)) (length-replicate G.p 0)
+
+  pub splice-length : (off : ℕ) (d xs : List ℕ) → off + length d ≤ length xs → length (splice off d xs) ≡ length xs
+  splice-length = length-splice
+
+  pub splice-whole : (d xs : List ℕ) → length d ≡ length xs → splice 0 d xs ≡ d
+  splice-whole = whole-splice

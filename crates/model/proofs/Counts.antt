@@ -1,20 +1,30 @@
--- How often a number stands in a list, through the changes that lists and the queue undergo: append, the sort, a removal.
--- Assumes nothing.
-use Prim.Native.Nat.{ℕ, zero, suc, _+_, _*_, _-_, _≤_, _<_}
+-- How often a number stands in a list, through the changes that lists and the queue undergo: append, the sort, a removal. And that
+-- these counts sum up to the list's length. Assumes nothing.
+use Prim.Native.Nat.{ℕ, zero, suc, _+_, _≤_, _<_}
 use native.Mathlib.Omega.{arith}
-use mathlib.Core.Path.{_≡_, refl, sym, ap, _∙_, subst}
+use mathlib.Core.Path.{_≡_, refl, sym, ap, _∙_}
 use mathlib.Core.Bool.{Bool, true, false, cond}
 use mathlib.Core.Logic.{_⊎_, inl, inr, _≢_}
 use mathlib.Core.List.{List, [], _∷_, _++_, append-assoc}
 use lib.Dec.{eqb, leb}
-use lib.ListN.{length, getD, take, drop, set, replicate, length-append}
-use borrow.Author.Tests.{eq-eqb, ne-eqb, eqb-true, eqb-false}
+use lib.ListN.{length, getD, replicate}
+use borrow.Author.Tests.{eq-eqb, ne-eqb, eqb-true}
 use Rattle.model.specs.Lists.{bit, insertBy, occ, sortBy, without}
+use Rattle.model.specs.Tables.{at}
 use Rattle.model.proofs.Slots.{same?}
 
+-- a list without the first x
 unfoldable pub remove : ℕ → List ℕ → List ℕ
 remove x [] = []
 remove x (y ∷ ys) = cond (eqb x y) ys (y ∷ remove x ys)
+
+pub occ-nil : (x : ℕ) → occ x [] ≡ 0
+unfolding occ
+occ-nil x = refl
+
+pub occ-one : (x y : ℕ) → occ x (y ∷ []) ≡ bit (eqb x y)
+unfolding occ
+occ-one x y = omega arith
 
 pub occ-cons : (x y : ℕ) (ys : List ℕ) → occ x (y ∷ ys) ≡ bit (eqb x y) + occ x ys
 unfolding occ
@@ -58,7 +68,8 @@ unfolding insertBy
 length-insert key y [] = refl
 length-insert key y (z ∷ ys) = go (leb (key y) (key z)) (length-insert key y ys)
   where
-    go : (b : Bool) → length (insertBy key y ys) ≡ suc (length ys) → length (cond b (y ∷ z ∷ ys) (z ∷ insertBy key y ys)) ≡ suc (suc (length ys))
+    go : (b : Bool) → length (insertBy key y ys) ≡ suc (length ys)
+        → length (cond b (y ∷ z ∷ ys) (z ∷ insertBy key y ys)) ≡ suc (suc (length ys))
     go true ih = refl
     go false ih = ap suc ih
 
@@ -73,7 +84,8 @@ unfolding occ remove
 length-remove x [] h = omega arith
 length-remove x (y ∷ a) h = go (eqb x y) (λ m. length-remove x a m) h
   where
-    go : (b : Bool) → (0 < occ x a → suc (length (remove x a)) ≡ length a) → 0 < bit b + occ x a → suc (length (cond b a (y ∷ remove x a))) ≡ suc (length a)
+    go : (b : Bool) → (0 < occ x a → suc (length (remove x a)) ≡ length a) → 0 < bit b + occ x a
+        → suc (length (cond b a (y ∷ remove x a))) ≡ suc (length a)
     go true ih m = refl
     go false ih m = ap suc (ih (omega arith))
 
@@ -90,10 +102,7 @@ occ-remove z x (y ∷ a) h = go (eqb x y) refl (λ m. occ-remove z x a m) h
 -- the slot's form: the list, then zeros
 pub without-slot : (x : ℕ) (a z : List ℕ) → 0 < occ x a → without x (a ++ z) ≡ remove x a ++ (z ++ (0 ∷ []))
 unfolding occ remove without
-without-slot x [] z h = absurd (zero-not h)
-  where
-    zero-not : 0 < 0 → ⊥
-    zero-not m = omega arith
+without-slot x [] z h = absurd (omega arith)
 without-slot x (y ∷ a) z h = go (eqb x y) (λ m. without-slot x a z m) h
   where
     go : (b : Bool) → (0 < occ x a → without x (a ++ z) ≡ remove x a ++ (z ++ (0 ∷ []))) → 0 < bit b + occ x a
@@ -101,7 +110,8 @@ without-slot x (y ∷ a) z h = go (eqb x y) (λ m. without-slot x a z m) h
     go true ih m = append-assoc a z (0 ∷ [])
     go false ih m = ap (λ r. y ∷ r) (ih (omega arith))
 
-pub occ-getD : (xs : List ℕ) (i : ℕ) → i < length xs → 0 < occ (getD xs i 0) xs
+-- what a list reads at a place of it stands in it
+pub occ-getD : (xs : List ℕ) (i : ℕ) → i < length xs → 0 < occ (at xs i) xs
 unfolding occ
 occ-getD [] i h = omega arith
 occ-getD (x ∷ xs) zero h = omega (arith, bit-same x)
@@ -110,13 +120,11 @@ occ-getD (x ∷ xs) (suc i) h = omega (arith, occ-getD xs i (omega arith))
 -- a number that stands in a list stands at some place of it
 pub occ-index : (x d : ℕ) (xs : List ℕ) → 0 < occ x xs → (i : ℕ) × (i < length xs) × (getD xs i d ≡ x)
 unfolding occ
-occ-index x d [] h = absurd (none h)
-  where
-    none : 0 < 0 → ⊥
-    none b = omega arith
+occ-index x d [] h = absurd (omega arith)
 occ-index x d (y ∷ xs) h = go (same? x y) (λ b. occ-index x d xs b)
   where
-    go : (x ≡ y) ⊎ (x ≢ y) → (0 < occ x xs → (i : ℕ) × (i < length xs) × (getD xs i d ≡ x)) → (i : ℕ) × (i < length (y ∷ xs)) × (getD (y ∷ xs) i d ≡ x)
+    go : (x ≡ y) ⊎ (x ≢ y) → (0 < occ x xs → (i : ℕ) × (i < length xs) × (getD xs i d ≡ x))
+        → (i : ℕ) × (i < length (y ∷ xs)) × (getD (y ∷ xs) i d ≡ x)
     go (inl e) ih = (0, omega arith, sym e)
     go (inr n) ih =
         let r : (i : ℕ) × (i < length xs) × (getD xs i d ≡ x) = ih (omega (arith, bit-other x y n)) in
@@ -126,3 +134,57 @@ pub occ-replicate : (x y n : ℕ) → x ≢ y → occ x (replicate n y) ≡ 0
 unfolding occ
 occ-replicate x y zero h = refl
 occ-replicate x y (suc n) h = omega (arith, bit-other x y h, occ-replicate x y n h)
+
+-- the sum of f over the numbers below n
+pub sumTo : ℕ → (ℕ → ℕ) → ℕ
+sumTo zero f = 0
+sumTo (suc n) f = f n + sumTo n f
+
+sum-add : (n : ℕ) (f h : ℕ → ℕ) → sumTo n (λ g. f g + h g) ≡ sumTo n f + sumTo n h
+unfolding sumTo
+sum-add zero f h = refl
+sum-add (suc n) f h = omega (arith, sum-add n f h)
+
+-- below n, y is counted once
+sum-above : (n y : ℕ) → n ≤ y → sumTo n (λ g. bit (eqb g y)) ≡ 0
+unfolding sumTo
+sum-above zero y h = refl
+sum-above (suc n) y h = omega (arith, sum-above n y (omega arith), bit-other n y (omega arith))
+
+sum-one : (n y : ℕ) → y < n → sumTo n (λ g. bit (eqb g y)) ≡ 1
+unfolding sumTo
+sum-one zero y h = omega arith
+sum-one (suc n) y h = go (same? n y) (λ m. sum-one n y m)
+  where
+    go : (n ≡ y) ⊎ (n ≢ y) → (y < n → sumTo n (λ g. bit (eqb g y)) ≡ 1)
+        → bit (eqb n y) + sumTo n (λ g. bit (eqb g y)) ≡ 1
+    go (inl e) ih = omega (arith, sum-above n y (omega arith), ap bit (ap (λ z. eqb n z) (sym e)), bit-same n)
+    go (inr m) ih = omega (arith, ih (omega arith), bit-other n y m)
+
+sum-zero : (n : ℕ) → sumTo n (λ _. 0) ≡ 0
+unfolding sumTo
+sum-zero zero = refl
+sum-zero (suc n) = omega (arith, sum-zero n)
+
+-- a list of numbers below n has as many elements as its numbers stand in it
+pub count-all : (n : ℕ) (q : List ℕ) → ((x : ℕ) → 0 < occ x q → x < n) → sumTo n (λ g. occ g q) ≡ length q
+unfolding occ
+count-all n [] h = sum-zero n
+count-all n (y ∷ q) h =
+    sum-add n (λ g. bit (eqb g y)) (λ g. occ g q)
+    ∙ omega (arith, sum-one n y (h y (omega (arith, bit-same y))), count-all n q (λ x m. h x (omega arith)))
+
+sum-le : (n : ℕ) (f : ℕ → ℕ) → ((g : ℕ) → f g ≤ 1) → sumTo n f ≤ n
+unfolding sumTo
+sum-le zero f h = omega arith
+sum-le (suc n) f h = omega (arith, h n, sum-le n f h)
+
+-- a sum of 0s and 1s, of which one is 0
+pub sum-lt : (n : ℕ) (f : ℕ → ℕ) (g : ℕ) → ((g : ℕ) → f g ≤ 1) → g < n → f g ≡ 0 → sumTo n f < n
+unfolding sumTo
+sum-lt zero f g h l e = omega arith
+sum-lt (suc n) f g h l e = go (same? g n) (λ m. sum-lt n f g h m e)
+  where
+    go : (g ≡ n) ⊎ (g ≢ n) → (g < n → sumTo n f < n) → f n + sumTo n f < suc n
+    go (inl q) ih = omega (arith, sum-le n f h, ap f q)
+    go (inr m) ih = omega (arith, ih (omega arith), h n)

@@ -1,33 +1,34 @@
 -- Demand 3, second half: the checkpoint that the encoding entry wrote, restored by the restoring entry over the flash as a power cut left
 -- it, gives each logical page exactly what it held when the checkpoint was taken.
-use Prim.Native.Nat.{ℕ, zero, suc, _+_, _*_, _≤_, _<_}
+use Prim.Native.Nat.{ℕ, suc, _<_}
 use native.Mathlib.Omega.{arith}
 use mathlib.Core.Path.{_≡_, refl, sym, ap, _∙_, subst}
-use mathlib.Core.Bool.{Bool, true, false}
+use mathlib.Core.Bool.{true}
 use mathlib.Core.Logic.{_⊎_, inl, inr, _≢_}
 use mathlib.Core.List.{List, [], _∷_}
 use lib.Dec.{leb, eqb}
-use lib.ListN.{length, getD, take, replicate, length-replicate}
+use lib.ListN.{length, getD, take}
 use borrow.Author.Tests.{eq-eqb}
-use Rattle.model.specs.Lists.{every, splice, zeros}
-use Rattle.model.specs.Numbers.{Geometry, Good, good?, Answer, Moved, Refused, empty, endless, pageOf}
-use Rattle.model.specs.Tables.{Tables, wordOf, tabWords, pages, view, packed}
-use Rattle.model.specs.Sound.{soundb}
+use Rattle.model.specs.Lists.{every, zeros}
+use Rattle.model.specs.Numbers.{Geometry, Good, good?, Moved, Refused, empty, endless, pageOf}
+use Rattle.model.specs.Tables.{Tables, tabWords, pages}
 use Rattle.model.specs.Device.{Flash, Op, state, pageAt, performAll}
 use Rattle.model.specs.PageWrite.{content}
-use Rattle.model.specs.Checkpoint.{sealed, fileSize, reasonOf, restored, restoredFrom}
-use Rattle.model.specs.Entry.{Recorder, recorder, Lent, lent, Outcome, outcome, refused, unless, guarded, tablesFit, tablesOf, clean, seenScratch, formatting, encoding, restoring}
-use Rattle.model.specs.History.{Call, Format, Open, Read, Write, Collect, CollectList, CollectThreshold, Encode, Restore, lit, run, after, opsOf, contentOf, mapIn, Cut, Elsewhere, Spares, IsRefused, Keeps, Phase, running, lost, Allowed, Since, checkpoint, lent-fuse, called, off, cut, regained, GivesBack}
+use Rattle.model.specs.Checkpoint.{sealed, fileSize, reasonOf, restoredFrom}
+use Rattle.model.specs.Entry.{Recorder, Lent, lent, Outcome, tablesFit, tablesOf, clean, seenScratch, formatting, encoding, restoring}
+use Rattle.model.specs.History.{Call, Format, Encode, Restore, lit, run, after, opsOf, contentOf, mapIn, Cut, Spares, IsRefused}
+use Rattle.model.specs.History.{Keeps, Phase, running, lost, Allowed, Since, checkpoint, lent-fuse, called, off, cut, regained, GivesBack}
 use Rattle.model.specs.Contract.{Fit}
 use Rattle.model.proofs.Working.{Counted}
 use Rattle.model.proofs.View.{sized-view, view-packed}
 use Rattle.model.proofs.Official.{soundb-counted, counted-sound}
 use Rattle.model.proofs.Content.{content-same}
-use Rattle.model.proofs.Ops.{Holds, Safe, SafeOps, all-kept, cut-kept}
+use Rattle.model.proofs.Ops.{Holds, SafeOps, all-kept, cut-kept}
 use Rattle.model.proofs.Restore.{Back}
 use Rattle.model.proofs.Sealed.{saved-passes, comes-back, accepted-sound, file-end}
 use Rattle.model.proofs.Guard.{each, good-test, test-good, tables-test, test-tables, clean-zeros, unless-passes, guarded-passes, guarded-by}
-use Rattle.model.proofs.Entry.{SoundIn, tab, packed-in, counted-in, Step, stepped, Begun, Stayed, opened-or, restored-or, by-kind, Wiped, wiped, opened-flash, restored-flash}
+use Rattle.model.proofs.Entry.{SoundIn, tab, packed-in, Step, stepped, Begun, Stayed}
+use Rattle.model.proofs.Entry.{opened-or, restored-or, by-kind, Wiped, wiped, opened-flash, restored-flash}
 
 -- ---- what an encoding that was not refused tells
 
@@ -158,7 +159,8 @@ module _ (G : Geometry) (bad : List ℕ) (r₀ : Recorder) (K : Good G) (S₀ : 
   stayed-still r x o e B s = subst (λ y. Still (y .left .unit)) (sym (s .is)) (subst Still (sym e) B)
 
   -- an opening that kept the checkpoint was refused; a restore was of the file, or refused
-  opened-still : (r : Recorder) (t : Tables) (o : Outcome) → Still r → IsRefused (o .answer) → Stayed (lent r [] []) o ⊎ Begun G r t o → Still (o .left .unit)
+  opened-still : (r : Recorder) (t : Tables) (o : Outcome) → Still r → IsRefused (o .answer) → Stayed (lent r [] []) o ⊎ Begun G r t o
+      → Still (o .left .unit)
   opened-still r t o B k (inl s) = stayed-still r (lent r [] []) o refl B s
   opened-still r t o B k (inr b) = absurd (subst IsRefused (b .answer) k)
 
@@ -247,7 +249,8 @@ module _ (G : Geometry) (bad : List ℕ) (r₀ : Recorder) (K : Good G) (S₀ : 
       → Begun G r (restoredFrom G file) (run G bad (Restore file (zeros (pages G) ∷ [])) r)
   unfolding restoring every
   restores r a b =
-      let p : every (good? G ∷ tablesFit G x ∷ clean (pages G ∷ []) (x .scratch) ∷ []) ≡ true = rw (test-good G K, test-tables G x a b, clean-zeros (pages G)) in
+      let p : every (good? G ∷ tablesFit G x ∷ clean (pages G ∷ []) (x .scratch) ∷ []) ≡ true =
+      rw (test-good G K, test-tables G x a b, clean-zeros (pages G)) in
       let q : eqb (reasonOf G file) 0 ≡ true = eq-eqb _ _ (saved-passes G K t₀ S₀) in
       subst (Begun G r (restoredFrom G file)) (sym (guarded-passes _ _ _ _ x _ p refl refl refl ∙ unless-passes _ _ x _ q))
       (record { good = K; counted = accepted-sound G file (saved-passes G K t₀ S₀) K; unit = refl; answer = refl; ops = refl })

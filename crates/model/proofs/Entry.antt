@@ -1,26 +1,28 @@
 -- The public entries, on every input: sound tables stay sound, a collection changes no logical page's content, the flash ends as the
 -- listed operations leave it, and with a finite fuse those are the first of the endless list.
-use Prim.Native.Nat.{ℕ, zero, suc, _+_, _*_, _≤_, _<_}
+use Prim.Native.Nat.{ℕ, _+_, _<_}
 use native.Mathlib.Omega.{arith}
 use mathlib.Core.Path.{_≡_, refl, sym, ap, _∙_, subst}
-use mathlib.Core.Bool.{Bool, true, false, cond}
+use mathlib.Core.Bool.{Bool, true, false}
 use mathlib.Core.Logic.{_⊎_, inl, inr, _≢_}
 use mathlib.Core.List.{List, [], _∷_}
 use lib.Dec.{ltb, leb, eqb}
 use lib.ListN.{length, take}
 use lib.Seq.{take-nil, length-take-le}
 use borrow.Author.Tests.{ltb-true, leb-true, eqb-true}
-use Rattle.model.specs.Numbers.{Geometry, Good, good?, Answer, Moved, Refused, Cause, Wrong, Unsound, Unmapped, Reason, empty, endless, flat, logicalPage, offset}
+use Rattle.model.specs.Numbers.{Geometry, Good, good?, Moved, Cause, Wrong, Unsound, Reason, endless, flat, logicalPage, offset}
 use Rattle.model.specs.Tables.{Tables, wordOf, tabWords, pages, view, packed}
 use Rattle.model.specs.Sound.{Sound, SoundTables, soundb, Mapped}
-use Rattle.model.specs.Device.{Flash, Op, state, State, Out, performAll, formatFrom}
+use Rattle.model.specs.Device.{Flash, Op, state, Out, performAll, formatFrom}
 use Rattle.model.specs.PageWrite.{content, writePage}
-use Rattle.model.specs.PageGc.{collect, collectList, collectThreshold}
 use Rattle.model.specs.Checkpoint.{opened, reasonOf, restoredFrom}
-use Rattle.model.specs.Entry.{Recorder, recorder, Lent, lent, Outcome, outcome, refused, unless, guarded, tablesOf, stateOf, back, tablesFit, flashFits, pageScratch, seenScratch, allFits, clean, formatting, opening, read, write, collecting, collection, listCollection, thresholdCollection, encoding, restoring}
-use Rattle.model.specs.History.{Call, Format, Open, Read, Write, Collect, CollectList, CollectThreshold, Encode, Restore, lit, run, after, opsOf, contentOf, Reached, by-opening, by-restoring, called, lent-fuse}
+use Rattle.model.specs.Entry.{Recorder, recorder, Lent, lent, Outcome, refused, unless, guarded, tablesOf}
+use Rattle.model.specs.Entry.{stateOf, back, tablesFit, flashFits, pageScratch, seenScratch, allFits, clean, formatting}
+use Rattle.model.specs.Entry.{opening, read, write, collecting, collection, listCollection, thresholdCollection, encoding, restoring}
+use Rattle.model.specs.History.{Call, Format, Open, Read, Write, Collect, CollectList, CollectThreshold, Encode, Restore}
+use Rattle.model.specs.History.{lit, run, after, opsOf, contentOf, Reached, by-opening, by-restoring, called, lent-fuse}
 use Rattle.model.specs.Contract.{Fit}
-use Rattle.model.proofs.Working.{Sized, Counted}
+use Rattle.model.proofs.Working.{Counted}
 use Rattle.model.proofs.Address.{flat-inj}
 use Rattle.model.proofs.View.{sized-view, packed-length, view-packed}
 use Rattle.model.proofs.Official.{counted-sound, sound-counted, soundb-counted}
@@ -346,7 +348,8 @@ module _ (G : Geometry) (bad : List ℕ) where
   pub opened-flash : (r : Recorder) → (after G bad Open r .flash ≡ r .flash) × (run G bad Open r .ops ≡ [])
   opened-flash r = or-flash G (lent r [] []) (opened G (tab G r .alloc)) (opening G (lent r [] [])) (opened-or G (lent r [] []))
 
-  pub restored-flash : (b : List ℕ) (s : List (List ℕ)) (r : Recorder) → (after G bad (Restore b s) r .flash ≡ r .flash) × (run G bad (Restore b s) r .ops ≡ [])
+  pub restored-flash : (b : List ℕ) (s : List (List ℕ)) (r : Recorder)
+      → (after G bad (Restore b s) r .flash ≡ r .flash) × (run G bad (Restore b s) r .ops ≡ [])
   restored-flash b s r = or-flash G (lent r [] s) (restoredFrom G b) (restoring G b (lent r [] s)) (restored-or G b (lent r [] s))
 
   -- the flash after a call is the flash before it with the call's operations done
@@ -358,7 +361,8 @@ module _ (G : Geometry) (bad : List ℕ) where
       (λ c n. stepped G bad c r n .performs)
       c
     where
-      idle : (c : Call) → (after G bad c r .flash ≡ r .flash) × (run G bad c r .ops ≡ []) → after G bad c r .flash ≡ performAll G (run G bad c r .ops) (r .flash)
+      idle : (c : Call) → (after G bad c r .flash ≡ r .flash) × (run G bad c r .ops ≡ [])
+          → after G bad c r .flash ≡ performAll G (run G bad c r .ops) (r .flash)
       idle c e = e .0 ∙ ap (λ os. performAll G os (r .flash)) (sym (e .1))
 
   -- ---- "any state reached by public calls"
@@ -385,7 +389,8 @@ module _ (G : Geometry) (bad : List ℕ) where
   -- ---- the fuse
 
   -- the tests do not look at the fuse
-  guarded-ops : (f : ℕ) (a b c d : Bool) (x x′ : Lent) (o o′ : Outcome) → o .ops ≡ take f (o′ .ops) → guarded a b c d x o .ops ≡ take f (guarded a b c d x′ o′ .ops)
+  guarded-ops : (f : ℕ) (a b c d : Bool) (x x′ : Lent) (o o′ : Outcome) → o .ops ≡ take f (o′ .ops)
+      → guarded a b c d x o .ops ≡ take f (guarded a b c d x′ o′ .ops)
   unfolding guarded unless
   guarded-ops f false b c d x x′ o o′ e = sym (take-nil f)
   guarded-ops f true false c d x x′ o o′ e = sym (take-nil f)

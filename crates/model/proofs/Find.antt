@@ -2,55 +2,53 @@
 use Prim.Native.Nat.{ℕ, zero, suc, _+_, _*_, _-_, _%_, _≤_, _<_}
 use native.Mathlib.Nat.{mod-lt, mod-eq-of-lt, add-mod-right}
 use native.Mathlib.Omega.{arith}
-use mathlib.Core.Path.{_≡_, refl, sym, ap, _∙_, subst}
-use mathlib.Core.Bool.{Bool, true, false, cond, _&&_}
+use mathlib.Core.Path.{_≡_, refl, ap, _∙_}
+use mathlib.Core.Bool.{Bool, true, false, cond}
 use mathlib.Core.Logic.{_⊎_, inl, inr, _≢_}
-use mathlib.Core.List.{List, [], _∷_}
+use mathlib.Core.List.{List}
 use lib.Dec.{eqb, ltb}
-use lib.ListN.{length, getD}
-use borrow.Author.Tests.{eqb-true, eqb-false, eq-eqb, ne-eqb, ltb-true, ltb-false}
+use borrow.Author.Tests.{eqb-true, eq-eqb, ltb-true, ltb-false}
 use Rattle.model.specs.Numbers.{Geometry, Good}
-use Rattle.model.specs.Tables.{Tables}
+use Rattle.model.specs.Tables.{Tables, at}
 use Rattle.model.specs.PageMap.{At, Found, Nothing, clearFrom, find, findFrom, orElse, usable}
 use Rattle.model.proofs.Working.{Counted}
 use Rattle.model.proofs.Slots.{same?, less?}
+use Rattle.model.proofs.Tests.{both}
 use Rattle.model.proofs.Spend.{Next}
 
 module _ (G : Geometry) (K : Good G) (t : Tables) (S : Counted G t) where
   abbrev firstOf : ℕ → ℕ
-  firstOf g = G.p - getD (t .free) g 0
+  firstOf g = G.p - at (t .free) g
 
-  clear-at : (g : ℕ) → g < G.n → 0 < getD (t .free) g 0 → (f k : ℕ) → k + f ≡ G.p → k + getD (t .free) g 0 ≤ G.p → clearFrom G (t .used) g k f ≡ At g (firstOf g)
+  -- of a segment that has a free page, the first free one is the first whose mark is clear
+  clear-at : (g : ℕ) → g < G.n → 0 < at (t .free) g → (f k : ℕ) → k + f ≡ G.p → k + at (t .free) g ≤ G.p
+      → clearFrom G (t .used) g k f ≡ At g (firstOf g)
   unfolding clearFrom
-  clear-at g hg hf zero k e h = absurd no-room
-    where
-      no-room : ⊥
-      no-room = omega arith
-  clear-at g hg hf (suc f) k e h = go (less? (k + getD (t .free) g 0) G.p) (λ m. clear-at g hg hf f (suc k) (omega arith) m)
+  clear-at g hg hf zero k e h = absurd (omega arith)
+  clear-at g hg hf (suc f) k e h = go (less? (k + at (t .free) g) G.p) (λ m. clear-at g hg hf f (suc k) (omega arith) m)
     where
       Goal : Bool → Type 0
       Goal b = cond b (At g k) (clearFrom G (t .used) g (suc k) f) ≡ At g (firstOf g)
 
-      go : (k + getD (t .free) g 0 < G.p) ⊎ (G.p ≤ k + getD (t .free) g 0)
-          → (suc k + getD (t .free) g 0 ≤ G.p → clearFrom G (t .used) g (suc k) f ≡ At g (firstOf g))
-          → Goal (eqb (getD (t .used) (g * G.p + k) 0) 0)
+      go : (k + at (t .free) g < G.p) ⊎ (G.p ≤ k + at (t .free) g)
+          → (suc k + at (t .free) g ≤ G.p → clearFrom G (t .used) g (suc k) f ≡ At g (firstOf g))
+          → Goal (eqb (at (t .used) (g * G.p + k)) 0)
       go (inl b) ih = rw (S .marked g k hg b) (ih (omega arith))
       go (inr b) ih =
           let q : k ≡ firstOf g = omega arith in
           rw (S .clear g k hg (omega arith) b) (ap (At g) q)
 
+  -- page found: the first free one of a segment that is not bad
   pub record Free (bad : List ℕ) (r : Found) : Type 0 where
     pub seg : ℕ
     pub is : r ≡ At seg (firstOf seg)
     pub next : Next G t seg (firstOf seg)
-    pub good : getD bad seg 0 ≡ 0
+    pub good : at bad seg ≡ 0
 
-  usable-next : (bad : List ℕ) (g : ℕ) → g < G.n → usable G bad t g ≡ true → (getD bad g 0 ≡ 0) × (0 < getD (t .free) g 0)
-  usable-next bad g hg u = go (eqb (getD bad g 0) 0) refl u
-    where
-      go : (b : Bool) → eqb (getD bad g 0) 0 ≡ b → (b && ltb 0 (getD (t .free) g 0)) ≡ true → (getD bad g 0 ≡ 0) × (0 < getD (t .free) g 0)
-      go true e v = (eqb-true _ _ e, ltb-true _ _ v)
-      go false e v = absurd (let z : _≡_ {A = ℕ} 0 1 = cc in omega arith)
+  usable-next : (bad : List ℕ) (g : ℕ) → usable G bad t g ≡ true → (at bad g ≡ 0) × (0 < at (t .free) g)
+  usable-next bad g u =
+      let h : (eqb (at bad g) 0 ≡ true) × (ltb 0 (at (t .free) g) ≡ true) = both _ _ u in
+      (eqb-true _ _ (h .0), ltb-true _ _ (h .1))
 
   -- no segment of the walk's places i to i + f - 1 will do
   abbrev NoneOf : List ℕ → ℕ → ℕ → Type 0
@@ -62,10 +60,7 @@ module _ (G : Geometry) (K : Good G) (t : Tables) (S : Counted G t) where
 
   found-from : (bad : List ℕ) (f i : ℕ) → None bad f i (findFrom G bad t i f) ⊎ Free bad (findFrom G bad t i f)
   unfolding findFrom
-  found-from bad zero i = inl (record { is = refl; none = λ x a b. absurd (empty-range x a b) })
-    where
-      empty-range : (x : ℕ) → i ≤ x → x < i + 0 → ⊥
-      empty-range x a b = omega arith
+  found-from bad zero i = inl (record { is = refl; none = λ x a b. absurd (omega arith) })
   found-from bad (suc f) i = go (usable G bad t g) refl (found-from bad f (suc i))
     where
       g : ℕ
@@ -87,7 +82,7 @@ module _ (G : Geometry) (K : Good G) (t : Tables) (S : Counted G t) where
       go : (b : Bool) → usable G bad t g ≡ b → None bad f (suc i) (findFrom G bad t (suc i) f) ⊎ Free bad (findFrom G bad t (suc i) f)
           → None bad (suc f) i (out b) ⊎ Free bad (out b)
       go true u ih =
-          let h : (getD bad g 0 ≡ 0) × (0 < getD (t .free) g 0) = usable-next bad g hg u in
+          let h : (at bad g ≡ 0) × (0 < at (t .free) g) = usable-next bad g u in
           inr
           (record {
             seg = g;
@@ -116,19 +111,20 @@ module _ (G : Geometry) (K : Good G) (t : Tables) (S : Counted G t) where
   -- nothing is found exactly when every segment is bad or has no free page
   pub record Full (bad : List ℕ) (r : Found) : Type 0 where
     pub is : r ≡ Nothing
-    pub full : (g : ℕ) → g < G.n → getD bad g 0 ≡ 0 → getD (t .free) g 0 ≡ 0
+    pub full : (g : ℕ) → g < G.n → at bad g ≡ 0 → at (t .free) g ≡ 0
 
   pub found : (bad : List ℕ) → Full bad (find G bad t) ⊎ Free bad (find G bad t)
   unfolding find
   found bad = go (found-from bad G.n 0)
     where
-      full : NoneOf bad G.n 0 → (g : ℕ) → g < G.n → getD bad g 0 ≡ 0 → getD (t .free) g 0 ≡ 0
+      full : NoneOf bad G.n 0 → (g : ℕ) → g < G.n → at bad g ≡ 0 → at (t .free) g ≡ 0
       full h g hg b =
           let r : (x : ℕ) × (x < G.n) × ((t .alloc + x) % G.n ≡ g) = reached g hg in
           let u : usable G bad t g ≡ false = rw (r .2) at (h (r .0) (omega arith) (omega (arith, r .1))) in
-          let v : ltb 0 (getD (t .free) g 0) ≡ false = rw (eq-eqb _ _ b) at u in
-          omega (arith, ltb-false 0 (getD (t .free) g 0) v)
+          let v : ltb 0 (at (t .free) g) ≡ false = rw (eq-eqb _ _ b) at u in
+          omega (arith, ltb-false 0 (at (t .free) g) v)
 
-      go : None bad G.n 0 (findFrom G bad t 0 G.n) ⊎ Free bad (findFrom G bad t 0 G.n) → Full bad (findFrom G bad t 0 G.n) ⊎ Free bad (findFrom G bad t 0 G.n)
+      go : None bad G.n 0 (findFrom G bad t 0 G.n) ⊎ Free bad (findFrom G bad t 0 G.n)
+          → Full bad (findFrom G bad t 0 G.n) ⊎ Free bad (findFrom G bad t 0 G.n)
       go (inl n) = inl (record { is = n .is; full = full (n .none) })
       go (inr f) = inr f

@@ -1,11 +1,10 @@
 -- What the tests of the public entries say when they pass, and how a fact of an entry is shown: of each refusal, and of the deed.
-use Prim.Native.Nat.{ℕ, zero, suc, _+_, _*_, _^_, _≤_, _<_}
-use mathlib.Core.Path.{_≡_, refl, sym, subst}
-use mathlib.Core.Bool.{Bool, true, false, cond, _&&_}
-use mathlib.Core.List.{List, [], _∷_}
-use native.Mathlib.Omega.{arith}
-use lib.Dec.{T, leb, eqb}
-use lib.ListN.{length, getD, replicate, length-replicate}
+use Prim.Native.Nat.{ℕ, zero, suc, _*_}
+use mathlib.Core.Path.{_≡_, refl}
+use mathlib.Core.Bool.{Bool, true, false, _&&_}
+use mathlib.Core.List.{[], _∷_}
+use lib.Dec.{eqb}
+use lib.ListN.{length, getD, length-replicate}
 use borrow.Author.Tests.{leb-true, eqb-true, le-leb, eq-eqb}
 use Rattle.model.specs.Lists.{every, blank, zeros}
 use Rattle.model.specs.Numbers.{Geometry, Good, goodTests, good?, Cause, Wrong, Unsound}
@@ -13,18 +12,9 @@ use Rattle.model.specs.Tables.{tabWords, pages}
 use Rattle.model.specs.Device.{Flash}
 use Rattle.model.specs.Entry.{Lent, Outcome, refused, unless, guarded, clean, tablesFit, flashFits}
 use Rattle.model.specs.Contract.{Fit}
+pub use Rattle.model.proofs.Tests.{both, each}
 
-pub both : (a b : Bool) → (a && b) ≡ true → (a ≡ true) × (b ≡ true)
-both true b e = (refl, e)
-both false b e = absurd (let z : _≡_ {A = ℕ} 0 1 = cc in omega arith)
-
--- every test of a list passes
-pub each : (bs : List Bool) → every bs ≡ true → (i : ℕ) → getD bs i true ≡ true
-unfolding every
-each [] h i = refl
-each (b ∷ bs) h zero = both b (every bs) h .0
-each (b ∷ bs) h (suc i) = each bs (both b (every bs) h .1) i
-
+-- the geometry's test, both ways
 pub good-test : (G : Geometry) → good? G ≡ true → Good G
 unfolding good?
 good-test G e =
@@ -61,7 +51,8 @@ test-good G K =
     )
 
 -- the sizes of the tables, and of the flash
-pub tables-test : (G : Geometry) (x : Lent) → tablesFit G x ≡ true → (length (x .unit .words) ≡ tabWords G) × (length (x .unit .used) ≡ pages G)
+pub tables-test : (G : Geometry) (x : Lent) → tablesFit G x ≡ true
+    → (length (x .unit .words) ≡ tabWords G) × (length (x .unit .used) ≡ pages G)
 tables-test G x e =
     let h : (eqb (length (x .unit .words)) (tabWords G) ≡ true) × (eqb (length (x .unit .used)) (pages G) ≡ true) = both _ _ e in
     (eqb-true _ _ (h .0), eqb-true _ _ (h .1))
@@ -71,7 +62,8 @@ test-tables G x a b = rw (eq-eqb _ _ a, eq-eqb _ _ b)
 
 pub flash-test : (G : Geometry) (f : Flash) → flashFits G f ≡ true → Fit G f
 flash-test G f e =
-    let h : (eqb (length (f .bytes)) (pages G * G .s) ≡ true) × ((eqb (length (f .marks)) (pages G) && eqb (length (f .counts)) (G .n)) ≡ true) = both _ _ e in
+    let h : (eqb (length (f .bytes)) (pages G * G .s) ≡ true) × ((eqb (length (f .marks)) (pages G) && eqb (length (f .counts)) (G .n)) ≡ true) =
+    both _ _ e in
     let k : (eqb (length (f .marks)) (pages G) ≡ true) × (eqb (length (f .counts)) (G .n) ≡ true) = both _ _ (h .1) in
     record { bytes = eqb-true _ _ (h .0); marks = eqb-true _ _ (k .0); counts = eqb-true _ _ (k .1) }
 
@@ -95,7 +87,8 @@ unfolding guarded unless
 guarded-passes a b c d x o p q r s = rw (p, q, r, s)
 
 -- what holds of a refusal that changes nothing, and of the call where the test passes, holds of both together
-pub unless-by : (P : Outcome → Type 0) (b : Bool) (c : Cause) (x : Lent) (o : Outcome) → P (refused c x) → (b ≡ true → P o) → P (unless b c x o)
+pub unless-by : (P : Outcome → Type 0) (b : Bool) (c : Cause) (x : Lent) (o : Outcome) → P (refused c x) → (b ≡ true → P o)
+    → P (unless b c x o)
 unfolding unless
 unless-by P true c x o w f = f refl
 unless-by P false c x o w f = w
@@ -105,4 +98,5 @@ pub guarded-by : (P : Outcome → Type 0) (a b c d : Bool) (x : Lent) (o : Outco
     → P (refused Wrong x) → P (refused Unsound x) → (a ≡ true → b ≡ true → c ≡ true → d ≡ true → P o) → P (guarded a b c d x o)
 unfolding guarded
 guarded-by P a b c d x o w u f =
-    unless-by P a Wrong x _ w (λ ha. unless-by P b Unsound x _ u (λ hb. unless-by P c Wrong x _ w (λ hc. unless-by P d Wrong x o w (λ hd. f ha hb hc hd))))
+    unless-by P a Wrong x _ w
+    (λ ha. unless-by P b Unsound x _ u (λ hb. unless-by P c Wrong x _ w (λ hc. unless-by P d Wrong x o w (λ hd. f ha hb hc hd))))

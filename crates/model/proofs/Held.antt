@@ -1,12 +1,12 @@
 -- Laws for the proofs of code: what sound tables in the words give, and how they stay sound from step to step.
-use Prim.Native.Nat.{ℕ, _+_, _*_, _^_, _≤_, _<_}
+use Prim.Native.Nat.{ℕ, _≤_}
 use native.Mathlib.Nat.{mul-le-mul}
 use native.Mathlib.Omega.{arith}
 use mathlib.Core.Path.{_≡_, sym, ap, _∙_, subst}
 use mathlib.Core.List.{List}
 use lib.ListN.{length}
 use Rattle.model.specs.Numbers.{Geometry, Good}
-use Rattle.model.specs.Tables.{Tables, tabWords, pages, view}
+use Rattle.model.specs.Tables.{Tables, pages, view}
 use Rattle.model.specs.Sound.{Sound}
 use Rattle.model.specs.Contract.{Held}
 use Rattle.model.proofs.Working.{Counted}

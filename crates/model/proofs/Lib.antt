@@ -1,35 +1,48 @@
-pub mod Working
+-- lists and tests
 pub mod Slots
 pub mod Counts
+pub mod Tests
+pub mod Regions
+pub mod Bytes
+-- addresses
 pub mod Address
+-- sound tables: the working form, the test, the official form, and the words that tables lie in
+pub mod Working
+pub mod Reading
+pub mod Decide
+pub mod Official
+pub mod View
+-- steps
 pub mod Spend
+pub mod Find
 pub mod Unlink
 pub mod Enqueue
 pub mod Forget
 pub mod Place
-pub mod Find
 pub mod Taken
 pub mod Reset
+-- device operations
 pub mod Content
-pub mod Base
-pub mod Restore
-pub mod Decide
 pub mod Ops
+pub mod Fuse
+-- calls
 pub mod Write
 pub mod Collect
-pub mod Fuse
 pub mod Format
-pub mod Guard
-pub mod Official
-pub mod Bytes
+-- checkpoint
+pub mod Base
+pub mod Restore
 pub mod Sealed
-pub mod Regions
-pub mod View
+-- entries
+pub mod Guard
+pub mod Outcome
 pub mod Entry
+-- demand 3: what a power cut leaves, and what a checkpoint gives back
 pub mod Cut
 pub mod Round
-pub mod Outcome
+-- laws for code
 pub mod Held
 pub mod Turns
 pub mod Refusals
+-- examples
 pub mod Examples

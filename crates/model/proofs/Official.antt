@@ -1,23 +1,22 @@
 -- Sound tables in three forms, and they are one: the official record, the working record that says "each once" by counting, and the test.
-use Prim.Native.Nat.{ℕ, zero, suc, _+_, _-_, _≤_, _<_}
+use Prim.Native.Nat.{ℕ, zero, suc, _+_, _≤_, _<_}
 use native.Mathlib.Omega.{arith}
 use mathlib.Core.Path.{_≡_, refl, sym, ap, _∙_}
 use mathlib.Core.Bool.{Bool, true, false}
 use mathlib.Core.Logic.{_⊎_, inl, inr, _≢_}
 use mathlib.Core.List.{List, [], _∷_}
-use lib.Dec.{T, eqb}
-use lib.ListN.{length, drop, replicate, length-drop, length-replicate, getD-replicate, List·getD-eq-default}
-use lib.Seq.{ext-getD, getD-drop, getD-take, length-take-le}
-use borrow.Author.Tests.{eq-eqb}
-use Rattle.model.specs.Lists.{bit, occ, slot}
-use Rattle.model.specs.Numbers.{Geometry, empty, segOf}
+use lib.Dec.{eqb}
+use lib.ListN.{length}
+use Rattle.model.specs.Lists.{bit, occ, slot, zeros}
+use Rattle.model.specs.Numbers.{Geometry, segOf}
 use Rattle.model.specs.Tables.{Tables, at, wordOf, queueOf, listOf}
 use Rattle.model.specs.Sound.{Mapped, Sound, names, slotOf, soundb}
 use Rattle.model.proofs.Working.{Counted, Sized}
-use Rattle.model.proofs.Slots.{same?, less?, part-fits, slot-length, slot-at}
+use Rattle.model.proofs.Slots.{same?, less?, by-end, past-end, mapped-lt, slot-at, zeros-from, zero-at}
 use Rattle.model.proofs.Counts.{bit-same, bit-other, occ-getD, occ-index}
-use Rattle.model.proofs.Unlink.{len≤, mapped-lt, names-at, names-pos}
-use Rattle.model.proofs.Decide.{sound-test, test-sound}
+use Rattle.model.proofs.Reading.{Tail, names-one, names-pos, names≤, row-length, Reads, stands, place-of}
+use Rattle.model.proofs.Reading.{list-reads, queue-reads, counted-list, counted-queue, list-mapped, queue-in}
+use Rattle.model.proofs.Decide.{test-counted, counted-test}
 
 -- no number stands at two of the first k places that f reads
 abbrev Apart : ℕ → (ℕ → ℕ) → Type 0
@@ -54,23 +53,8 @@ occ-apart (y ∷ ys) h (suc i) zero a b e =
     omega (arith, h y, bit-same y)
 occ-apart (y ∷ ys) h (suc i) (suc j) a b e = ap suc (occ-apart ys (λ x. omega (arith, h x)) i j (omega arith) (omega arith) e)
 
--- xs is the first k numbers that f reads
-record Reads (xs : List ℕ) (k : ℕ) (f : ℕ → ℕ) : Type 0 where
-  size : length xs ≡ k
-  each : (i : ℕ) → i < k → at xs i ≡ f i
-
+-- what f reads differs from place to place exactly if each number stands once at most
 module _ {xs : List ℕ} {k : ℕ} {f : ℕ → ℕ} (R : Reads xs k f) where
-  -- a number that f reads stands in xs, and one that stands in xs is read
-  stands : (i : ℕ) → i < k → 0 < occ (f i) xs
-  stands i h = rw (R .each i h) at (occ-getD xs i (rw (R .size) h))
-
-  place : (x : ℕ) → 0 < occ x xs → (i : ℕ) × (i < k) × (f i ≡ x)
-  place x h =
-      let r : (i : ℕ) × (i < length xs) × (at xs i ≡ x) = occ-index x 0 xs h in
-      let b : r .0 < k = rw (R .size) at (r .1) in
-      (r .0, b, sym (R .each (r .0) b) ∙ r .2)
-
-  -- what f reads differs from place to place exactly if each number stands once at most
   single : Apart k f → (x : ℕ) → occ x xs ≤ 1
   single h = apart-occ xs apart
     where
@@ -83,45 +67,6 @@ module _ {xs : List ℕ} {k : ℕ} {f : ℕ → ℕ} (R : Reads xs k f) where
   differing : ((x : ℕ) → occ x xs ≤ 1) → Apart k f
   differing h i j a b e = occ-apart xs h i j (rw (R .size) a) (rw (R .size) b) (R .each i a ∙ e ∙ sym (R .each j b))
 
--- zeros from c on, at each place and as a list
-zeros : (xs : List ℕ) (c n : ℕ) → length xs ≡ n → ((j : ℕ) → c ≤ j → j < n → at xs j ≡ 0) → drop c xs ≡ replicate (n - c) 0
-zeros xs c n e h = ext-getD 0 (drop c xs) (replicate (n - c) 0) (len ∙ sym (length-replicate (n - c) 0)) each
-  where
-    len : length (drop c xs) ≡ n - c
-    len = length-drop c xs ∙ ap (λ x. x - c) e
-
-    each : (i : ℕ) → i < length (drop c xs) → at (drop c xs) i ≡ at (replicate (n - c) 0) i
-    each i b =
-        let b′ : i < n - c = rw len at b in
-        getD-drop c xs i 0 ∙ h (c + i) (omega arith) (omega arith) ∙ sym (getD-replicate (n - c) i 0 0 b′)
-
-zero-at : (xs : List ℕ) (c n j : ℕ) → drop c xs ≡ replicate (n - c) 0 → c ≤ j → j < n → at xs j ≡ 0
-zero-at xs c n j e a b =
-    let i : c + (j - c) ≡ j = omega arith in
-    ap (at xs) (sym i) ∙ sym (getD-drop c xs (j - c) 0) ∙ ap (λ z. at z (j - c)) e ∙ getD-replicate (n - c) (j - c) 0 0 (omega arith)
-
--- what holds below n and past the end holds everywhere; past the end of a table stands 0
-by-end : (P : ℕ → Type 0) (n : ℕ) → ((g : ℕ) → g < n → P g) → ((g : ℕ) → n ≤ g → P g) → (g : ℕ) → P g
-by-end P n inside past g = go (less? g n)
-  where
-    go : (g < n) ⊎ (n ≤ g) → P g
-    go (inl h) = inside g h
-    go (inr h) = past g h
-
-past-end : (xs : List ℕ) (n g : ℕ) → length xs ≡ n → n ≤ g → at xs g ≡ 0
-past-end xs n g e h = List·getD-eq-default xs 0 {n = g} (rw e h)
-
--- a word names its segment once, and none twice
-names-one : (G : Geometry) (a g : ℕ) → a ≢ empty → segOf G a ≡ g → names G a g ≡ 1
-names-one G a g m e = names-at G a g m ∙ ap bit (eq-eqb (segOf G a) g e)
-
-names≤ : (G : Geometry) (a g : ℕ) → names G a g ≤ 1
-names≤ G a g = go (less? 0 (names G a g))
-  where
-    go : (0 < names G a g) ⊎ (names G a g ≤ 0) → names G a g ≤ 1
-    go (inl h) = omega (arith, names-one G a g (names-pos G a g h .0) (names-pos G a g h .1))
-    go (inr h) = omega arith
-
 -- two numbers, each 0 or 1, that are positive together
 same-bit : (a b : ℕ) → a ≤ 1 → b ≤ 1 → (0 < a → 0 < b) → (0 < b → 0 < a) → a ≡ b
 same-bit a b x y f g = go (less? 0 a) (less? 0 b)
@@ -131,33 +76,8 @@ same-bit a b x y f g = go (less? 0 a) (less? 0 b)
     go (inr c) (inl d) = omega (arith, g d)
     go (inr c) (inr d) = omega arith
 
--- the list of a segment is what its slots hold, and the queue what its places hold
-module _ (G : Geometry) (t : Tables) (Z : Sized G t) where
-  part-length : (g : ℕ) → g < G.n → length (slot G.p g (t .lists)) ≡ G.p
-  part-length g h = slot-length G.p g (t .lists) (rw (Z .lists) (part-fits G.p h))
-
-  list-reads : (g : ℕ) → g < G.n → at (t .lens) g ≤ G.p → Reads (listOf G t g) (at (t .lens) g) (slotOf G t g)
-  list-reads g h b =
-      record {
-        size = length-take-le (at (t .lens) g) (slot G.p g (t .lists)) (rw (part-length g h) b);
-        each = λ i a. getD-take (at (t .lens) g) (slot G.p g (t .lists)) i 0 a ∙ slot-at G.p g (t .lists) i 0 (omega arith);
-      }
-
-  queue-reads : t .queued ≤ G.n → Reads (queueOf t) (t .queued) (at (t .queue))
-  queue-reads b =
-      record {
-        size = length-take-le (t .queued) (t .queue) (rw (Z .queue) b);
-        each = λ i a. getD-take (t .queued) (t .queue) i 0 a;
-      }
-
 -- the working form has every field of the official one
 module _ (G : Geometry) (t : Tables) (S : Counted G t) where
-  counted-list : (g : ℕ) → g < G.n → Reads (listOf G t g) (at (t .lens) g) (slotOf G t g)
-  counted-list g h = list-reads G t (S .sized) g h (len≤ G t S g)
-
-  counted-queue : Reads (queueOf t) (t .queued) (at (t .queue))
-  counted-queue = queue-reads G t (S .sized) (S .queued≤)
-
   counted-found : (l : ℕ) → Mapped t l → 0 < occ l (listOf G t (segOf G (wordOf t l)))
   counted-found l m =
       let g : ℕ = segOf G (wordOf t l) in
@@ -166,7 +86,7 @@ module _ (G : Geometry) (t : Tables) (S : Counted G t) where
   counted-queued : (g : ℕ) → 0 < occ g (queueOf t) → (g < G.n) × (at (t .free) g ≡ 0) × (at (t .flags) g ≡ 1)
   counted-queued g b =
       let f : 0 < at (t .flags) g = omega (arith, S .once g) in
-      (rw (S .sized .flags) at (mapped-lt (t .flags) g 0 (omega arith)), S .full g f, omega (arith, S .flag≤ g))
+      (queue-in G t S g b, S .full g f, omega (arith, S .flag≤ g))
 
 pub counted-sound : (G : Geometry) (t : Tables) → Counted G t → Sound G t
 counted-sound G t S =
@@ -177,8 +97,8 @@ counted-sound G t S =
       room = λ g _. S .free≤ g;
       ones = λ g k h b. S .marked g k h (omega arith);
       zeros = λ g k h a b. S .clear g k h b (omega arith);
-      listed = λ g i h b. names-pos G _ g (rw (S .listed (slotOf G t g i) g h) at (stands (counted-list G t S g h) i b));
-      found = λ l m. place (counted-list G t S (segOf G (wordOf t l)) (S .seg< l m)) l (counted-found G t S l m);
+      listed = λ g i h b. list-mapped G t S (slotOf G t g i) g h (stands (counted-list G t S g h) i b);
+      found = λ l m. place-of (counted-list G t S (segOf G (wordOf t l)) (S .seg< l m)) l (counted-found G t S l m);
       once = λ g i j h. differing (counted-list G t S g h) (λ x. rw (S .listed x g h) (names≤ G (wordOf t x) g)) i j;
       least = λ g _. S .lens≤ g;
       most = λ g _. omega (arith, S .valid≤ g);
@@ -209,15 +129,15 @@ module _ (G : Geometry) (t : Tables) (Z : Sized G t) (S : Sound G t) where
   sound-full g f = S .full g (rw (Z .flags) at (mapped-lt (t .flags) g 0 (omega arith))) (omega (arith, sound-flag g))
 
   sound-list : (g : ℕ) → g < G.n → Reads (listOf G t g) (at (t .lens) g) (slotOf G t g)
-  sound-list g h = list-reads G t Z g h (omega (arith, S .least g h, S .most g h))
+  sound-list g h = list-reads Z g h (omega (arith, S .least g h, S .most g h))
 
   sound-queue : Reads (queueOf t) (t .queued) (at (t .queue))
-  sound-queue = queue-reads G t Z (S .fits)
+  sound-queue = queue-reads Z (S .fits)
 
   -- who stands in the list of g is mapped into g, and who is mapped stands in a list
   sound-mapped : (l g : ℕ) → g < G.n → 0 < occ l (listOf G t g) → Mapped t l × (segOf G (wordOf t l) ≡ g)
   sound-mapped l g h b =
-      let r : (i : ℕ) × (i < at (t .lens) g) × (slotOf G t g i ≡ l) = place (sound-list g h) l b in
+      let r : (i : ℕ) × (i < at (t .lens) g) × (slotOf G t g i ≡ l) = place-of (sound-list g h) l b in
       rw (r .2) at (S .listed g (r .0) h (r .1))
 
   sound-found : (l : ℕ) → Mapped t l → 0 < occ l (listOf G t (segOf G (wordOf t l)))
@@ -243,9 +163,9 @@ module _ (G : Geometry) (t : Tables) (Z : Sized G t) (S : Sound G t) where
           let r : Mapped t l × (segOf G (wordOf t l) ≡ g) = names-pos G (wordOf t l) g b in
           rw (r .1) at (sound-found l (r .0))
 
-  sound-tails : (g : ℕ) → g < G.n → drop (at (t .lens) g) (slot G.p g (t .lists)) ≡ replicate (G.p - at (t .lens) g) 0
+  sound-tails : (g : ℕ) → g < G.n → Tail G t g
   sound-tails g h =
-      zeros (slot G.p g (t .lists)) (at (t .lens) g) G.p (part-length G t Z g h)
+      zeros-from (slot G.p g (t .lists)) (at (t .lens) g) G.p (row-length Z h)
       (λ j a b. slot-at G.p g (t .lists) j 0 b ∙ S .past g j h a b)
 
   sound-once : (g : ℕ) → occ g (queueOf t) ≤ at (t .flags) g
@@ -253,7 +173,7 @@ module _ (G : Geometry) (t : Tables) (Z : Sized G t) (S : Sound G t) where
     where
       go : (0 < occ g (queueOf t)) ⊎ (occ g (queueOf t) ≤ 0) → occ g (queueOf t) ≤ at (t .flags) g
       go (inl b) =
-          let r : (i : ℕ) × (i < t .queued) × (at (t .queue) i ≡ g) = place sound-queue g b in
+          let r : (i : ℕ) × (i < t .queued) × (at (t .queue) i ≡ g) = place-of sound-queue g b in
           let f : at (t .flags) g ≡ 1 = rw (r .2) at (S .queued (r .0) (r .1) .2) in
           omega (arith, single sound-queue (S .distinct) g)
       go (inr b) = omega arith
@@ -276,7 +196,7 @@ sound-counted G t Z S =
       flag≤ = sound-flag G t Z S;
       full = sound-full G t Z S;
       queued≤ = S .fits;
-      behind = zeros (t .queue) (t .queued) G.n (Z .queue) (S .behind);
+      behind = zeros-from (t .queue) (t .queued) G.n (Z .queue) (S .behind);
       alloc< = S .alloc;
     }
 
@@ -285,9 +205,9 @@ abbrev pub Says : Bool → Type 0 → Type 0
 Says true P = P
 Says false P = P → ⊥
 
-says : (b : Bool) (P : Type 0) → (T b → P) → (P → T b) → Says b P
-says true P f g = f tt
-says false P f g = g
+says : (b : Bool) (P : Type 0) → (b ≡ true → P) → (P → b ≡ true) → Says b P
+says true P f g = f refl
+says false P f g = λ h. let e : false ≡ true = g h in absurd (let z : _≡_ {A = ℕ} 0 1 = cc in omega arith)
 
 says-same : (r b : Bool) (P : Type 0) → Says r P → Says b P → r ≡ b
 says-same true true P x y = refl
@@ -295,20 +215,16 @@ says-same true false P x y = absurd (y x)
 says-same false true P x y = absurd (x y)
 says-same false false P x y = refl
 
-T→true : (b : Bool) → T b → b ≡ true
-T→true true h = refl
-T→true false h = absurd h
-
 -- the test says that tables are sound
 pub soundb-counted : (G : Geometry) (t : Tables) → Sized G t → soundb G t ≡ true → Counted G t
-soundb-counted G t Z e = test-sound G t Z (rw e tt)
+soundb-counted = test-counted
 
 pub counted-soundb : (G : Geometry) (t : Tables) → Counted G t → soundb G t ≡ true
-counted-soundb G t S = T→true (soundb G t) (sound-test G t (S .sized) S)
+counted-soundb = counted-test
 
 pub soundb-says : (G : Geometry) (t : Tables) → Sized G t → Says (soundb G t) (Sound G t)
 soundb-says G t Z =
-    says (soundb G t) (Sound G t) (λ h. counted-sound G t (test-sound G t Z h)) (λ S. sound-test G t Z (sound-counted G t Z S))
+    says (soundb G t) (Sound G t) (λ e. counted-sound G t (test-counted G t Z e)) (λ S. counted-test G t (sound-counted G t Z S))
 
 pub says-soundb : (G : Geometry) (t : Tables) → Sized G t → (r : Bool) → Says r (Sound G t) → r ≡ soundb G t
 says-soundb G t Z r h = says-same r (soundb G t) (Sound G t) h (soundb-says G t Z)

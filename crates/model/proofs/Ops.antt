@@ -1,15 +1,14 @@
 -- What device operations, done or torn, leave alone: the pages that a map M names, as long as every programming is of another page and
 -- the erases spare M's segments. Each call's operations are shown to be such a list (`Safe`).
-use Prim.Native.Nat.{ℕ, zero, suc, _+_, _*_, _-_, _≤_, _<_}
+use Prim.Native.Nat.{ℕ, zero, suc, _+_, _*_, _<_}
 use native.Mathlib.Omega.{arith}
 use mathlib.Core.Path.{_≡_, refl, sym, ap, _∙_, subst}
 use mathlib.Core.Logic.{_≢_}
 use mathlib.Core.List.{List, [], _∷_, _++_}
 use lib.ListN.{length, getD, take}
-use Rattle.model.specs.Lists.{slot}
 use Rattle.model.specs.Numbers.{Geometry, empty, flat, pageOf, segOf}
 use Rattle.model.specs.Tables.{Tables, at}
-use Rattle.model.specs.Device.{Flash, Op, Program, EraseSeg, Out, behind, blanked, burn, pageAt, perform, performAll, programmed}
+use Rattle.model.specs.Device.{Flash, Op, Program, EraseSeg, blanked, burn, pageAt, perform, performAll, programmed}
 use Rattle.model.specs.History.{Elsewhere, Spares, Torn, Cut}
 use Rattle.model.specs.Contract.{Fit}
 use Rattle.model.proofs.Slots.{place-inj-seg, place-inj-page}
@@ -81,27 +80,24 @@ held-apart G M t H g k N x m e =
 
 -- ---- the flash keeps its size, and M's pages their bytes
 
--- operations done
-done-fit : (G : Geometry) (M : List ℕ) (os : List Op) (f : Flash) → Fit G f → SafeOps G M os → Spares G M os → Fit G (performAll G os f)
-done-fit G M [] f F s e = F
-done-fit G M (Program g k b ∷ os) f F s e =
-    done-fit G M os _ (program-fit G f F g k (s .0 .seg) (s .0 .page<) b (s .0 .size) 1 (burn (f .fuse))) (s .1) e
-done-fit G M (EraseSeg g c ∷ os) f F s e = done-fit G M os _ (blank-fit G f F g c (s .0)) (s .1 (e .0)) (e .1)
+-- a programming that spares M
+spared-fit : (G : Geometry) (M : List ℕ) (g k : ℕ) (page : List ℕ) (f : Flash) → Fit G f → Spared G M g k page → Fit G (programmed G g k page f)
+spared-fit G M g k page f F s = program-fit G f F g k (s .seg) (s .page<) page (s .size) 1 (burn (f .fuse))
 
--- a cut among them
+-- an operation torn, and a cut among several
 torn-fit : (G : Geometry) (M : List ℕ) (o : Op) (os : List Op) (f f′ : Flash) → Fit G f → SafeOps G M (o ∷ os) → Torn G o f f′ → Fit G f′
 torn-fit G M (Program g k b) os f f′ F s t =
     subst (Fit G) (sym (t .4)) (program-fit G f F g k (s .0 .seg) (s .0 .page<) (t .0) (t .2) (t .1) (f .fuse))
 torn-fit G M (EraseSeg g c) os f f′ F s t =
     subst (Fit G) (sym (t .5)) (segment-fit G f F g (s .0) (t .0) (t .3) (t .1) (t .2) (f .fuse) (t .4))
 
-pub cut-fit : (G : Geometry) (M : List ℕ) (i : ℕ) (os : List Op) (f f′ : Flash) → Fit G f → SafeOps G M os → Spares G M (take (suc i) os) → Cut G i os f f′
-    → Fit G f′
+pub cut-fit : (G : Geometry) (M : List ℕ) (i : ℕ) (os : List Op) (f f′ : Flash) → Fit G f → SafeOps G M os → Spares G M (take (suc i) os)
+    → Cut G i os f f′ → Fit G f′
 cut-fit G M i [] f f′ F s e c = subst (Fit G) (sym c) F
 cut-fit G M zero (Program g k b ∷ os) f f′ F s e c = torn-fit G M (Program g k b) os f f′ F s c
 cut-fit G M zero (EraseSeg g n ∷ os) f f′ F s e c = torn-fit G M (EraseSeg g n) os f f′ F s c
 cut-fit G M (suc i) (Program g k b ∷ os) f f′ F s e c =
-    cut-fit G M i os _ f′ (program-fit G f F g k (s .0 .seg) (s .0 .page<) b (s .0 .size) 1 (burn (f .fuse))) (s .1) e c
+    cut-fit G M i os _ f′ (spared-fit G M g k b f F (s .0)) (s .1) e c
 cut-fit G M (suc i) (EraseSeg g n ∷ os) f f′ F s e c = cut-fit G M i os _ f′ (blank-fit G f F g n (s .0)) (s .1 (e .0)) (e .1) c
 
 module _ (G : Geometry) (M : List ℕ) (l : ℕ) (m : getD M l empty ≢ empty) (page : pageOf G (getD M l empty) < G.p) where
@@ -116,7 +112,8 @@ module _ (G : Geometry) (M : List ℕ) (l : ℕ) (m : getD M l empty ≢ empty) 
   erase-kept g c f F hg e = blank-other G f F g c hg (segOf G a) (pageOf G a) page (e l m)
 
   -- the next one torn
-  torn-kept : (o : Op) (os : List Op) (f f′ : Flash) → Fit G f → SafeOps G M (o ∷ os) → Spares G M (o ∷ []) → Torn G o f f′ → pageAt G f′ a ≡ pageAt G f a
+  torn-kept : (o : Op) (os : List Op) (f f′ : Flash) → Fit G f → SafeOps G M (o ∷ os) → Spares G M (o ∷ []) → Torn G o f f′
+      → pageAt G f′ a ≡ pageAt G f a
   torn-kept (Program g k b) os f f′ F s e t =
       ap (λ z. pageAt G z a) (t .4) ∙ program-other G f F g k (s .0 .seg) (s .0 .page<) (t .0) (t .2) (flat G a) (s .0 .apart l m)
   torn-kept (EraseSeg g c) os f f′ F s e t =
@@ -125,15 +122,16 @@ module _ (G : Geometry) (M : List ℕ) (l : ℕ) (m : getD M l empty ≢ empty) 
   pub all-kept : (os : List Op) (f : Flash) → Fit G f → SafeOps G M os → Spares G M os → pageAt G (performAll G os f) a ≡ pageAt G f a
   all-kept [] f F s e = refl
   all-kept (Program g k b ∷ os) f F s e =
-      all-kept os _ (program-fit G f F g k (s .0 .seg) (s .0 .page<) b (s .0 .size) 1 (burn (f .fuse))) (s .1) e ∙ program-kept g k b f F (s .0)
+      all-kept os _ (spared-fit G M g k b f F (s .0)) (s .1) e ∙ program-kept g k b f F (s .0)
   all-kept (EraseSeg g c ∷ os) f F s e = all-kept os _ (blank-fit G f F g c (s .0)) (s .1 (e .0)) (e .1) ∙ erase-kept g c f F (s .0) (e .0)
 
   -- a cut after i operations: where the operations begun spare M's segments, the page is as it was
-  pub cut-kept : (i : ℕ) (os : List Op) (f f′ : Flash) → Fit G f → SafeOps G M os → Spares G M (take (suc i) os) → Cut G i os f f′ → pageAt G f′ a ≡ pageAt G f a
+  pub cut-kept : (i : ℕ) (os : List Op) (f f′ : Flash) → Fit G f → SafeOps G M os → Spares G M (take (suc i) os) → Cut G i os f f′
+      → pageAt G f′ a ≡ pageAt G f a
   cut-kept i [] f f′ F s e c = ap (λ z. pageAt G z a) c
   cut-kept zero (Program g k b ∷ os) f f′ F s e c = torn-kept (Program g k b) os f f′ F s e c
   cut-kept zero (EraseSeg g n ∷ os) f f′ F s e c = torn-kept (EraseSeg g n) os f f′ F s e c
   cut-kept (suc i) (Program g k b ∷ os) f f′ F s e c =
-      cut-kept i os _ f′ (program-fit G f F g k (s .0 .seg) (s .0 .page<) b (s .0 .size) 1 (burn (f .fuse))) (s .1) e c ∙ program-kept g k b f F (s .0)
+      cut-kept i os _ f′ (spared-fit G M g k b f F (s .0)) (s .1) e c ∙ program-kept g k b f F (s .0)
   cut-kept (suc i) (EraseSeg g n ∷ os) f f′ F s e c =
       cut-kept i os _ f′ (blank-fit G f F g n (s .0)) (s .1 (e .0)) (e .1) c ∙ erase-kept g n f F (s .0) (e .0)

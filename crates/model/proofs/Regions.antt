@@ -1,13 +1,15 @@
 -- Parts of a list: read, changed and put back; and a list cut into consecutive parts. Assumes nothing.
 use Prim.Native.Nat.{ℕ, zero, suc, _+_, _-_, _≤_, _<_}
-use native.Mathlib.Nat.{add-assoc, add-zero, add-sub-cancel-left, le-add-right, sub-zero}
+use native.Mathlib.Nat.{add-assoc, add-zero, add-sub-cancel-left, le-add-right}
 use native.Mathlib.Omega.{arith}
 use mathlib.Core.Path.{_≡_, refl, sym, ap, ap₂, _∙_}
 use mathlib.Core.List.{List, [], _∷_, _++_, append-assoc, append-nil}
 use lib.ListN.{length, getD, take, drop, set, length-append, length-take, length-drop, take-append-drop, drop-of-length-le}
-use lib.Seq.{length-take-le, take-all, take-nil, take-append-le, drop-append-le, take-at, drop-at, take-take, take-add, drop-drop, getD-take, getD-drop, take-set-le, take-set-lt, drop-set-lt, drop-set-add}
+use lib.Seq.{length-take-le, take-all, take-append-le, drop-append-le, take-at, drop-at, take-add, drop-drop, getD-take, getD-drop}
+use lib.Seq.{take-set-le, take-set-lt, drop-set-lt, drop-set-add}
 use borrow.Rule.Slice.PartMut.{putMid}
-use Rattle.model.specs.Tables.{region}
+use Rattle.model.specs.Tables.{at, region}
+use Rattle.model.proofs.Slots.{region-take}
 
 -- the k words from a on changed by f, the rest as it is; `onSlot p g` is `onPart (g * p) p`
 abbrev pub onPart : ℕ → ℕ → (List ℕ → List ℕ) → List ℕ → List ℕ
@@ -22,24 +24,16 @@ module _ (a k : ℕ) (w : List ℕ) where
   region-length h = simp (length-take, length-drop) (omega arith)
 
 -- one word, by the region of that word
-pub word-at : (i : ℕ) (w : List ℕ) → getD w i 0 ≡ getD (region i 1 w) 0 0
-word-at i w = sym (region-at i 1 w 0 0 (omega arith) ∙ ap (λ x. getD w x 0) (add-zero i))
+pub word-at : (i : ℕ) (w : List ℕ) → at w i ≡ at (region i 1 w) 0
+word-at i w = sym (region-at i 1 w 0 0 (omega arith) ∙ ap (at w) (add-zero i))
 
--- what is left of a front
-drop-take : (d k : ℕ) (xs : List ℕ) → drop d (take k xs) ≡ take (k - d) (drop d xs)
-drop-take zero k xs = ap (λ m. take m xs) (sym (sub-zero k))
-drop-take (suc d) zero xs = let z : 0 ≡ zero - suc d = omega arith in ap (λ m. take m (drop (suc d) xs)) z
-drop-take (suc d) (suc k) [] = sym (take-nil (suc k - suc d))
-drop-take (suc d) (suc k) (x ∷ xs) = let e : k - d ≡ suc k - suc d = omega arith in drop-take d k xs ∙ ap (λ m. take m (drop d xs)) e
-
--- a region of a front, and of a region
-region-take : (n c k : ℕ) (w : List ℕ) → c + k ≤ n → region c k (take n w) ≡ region c k w
-region-take n c k w h = ap (take k) (drop-take c n w) ∙ take-take k (n - c) (drop c w) (omega arith)
-
+-- a region of a region
 pub region-region : (a n c k : ℕ) (w : List ℕ) → c + k ≤ n → region c k (region a n w) ≡ region (a + c) k w
 region-region a n c k w h = region-take n c k (drop a w) h ∙ ap (take k) (drop-drop c a w)
 
-pub onPart-length : (a k : ℕ) (f : List ℕ → List ℕ) (w : List ℕ) → a + k ≤ length w → length (f (region a k w)) ≡ k → length (onPart a k f w) ≡ length w
+-- a part changed by what keeps its length
+pub onPart-length : (a k : ℕ) (f : List ℕ → List ℕ) (w : List ℕ) → a + k ≤ length w → length (f (region a k w)) ≡ k
+    → length (onPart a k f w) ≡ length w
 onPart-length a k f w h e = simp (length-append, length-take, length-drop, e) (omega arith)
 
 -- a part that is the whole list
@@ -60,7 +54,8 @@ onPart-right : (s a k : ℕ) (f : List ℕ → List ℕ) (w : List ℕ) → onPa
 onPart-right s a k f w = simp (take-add, drop-drop, append-assoc, add-assoc)
 
 -- a lent part that has come back: what the callee says of the part, said of the whole
-pub part-back : (w ys : List ℕ) (a k : ℕ) (f : List ℕ → List ℕ) → ys ≡ f (region a (a + k - a) w) → putMid a (a + k - a) w ys ≡ onPart a k f w
+pub part-back : (w ys : List ℕ) (a k : ℕ) (f : List ℕ → List ℕ) → ys ≡ f (region a (a + k - a) w)
+    → putMid a (a + k - a) w ys ≡ onPart a k f w
 part-back w ys a k f e =
     ap (λ r. putMid a (a + k - a) w r) e
     ∙ ap (λ m. putMid a m w (f (region a m w))) (add-sub-cancel-left a k)
@@ -69,7 +64,8 @@ part-back w ys a k f e =
 pub part-length : (w : List ℕ) (a k : ℕ) → a + k ≤ length w → length (region a (a + k - a) w) ≡ k
 part-length w a k h = rw (add-sub-cancel-left a k) (region-length a k w h)
 
-pub back-length : (w ys : List ℕ) (a k : ℕ) → a + k ≤ length w → length ys ≡ length (region a (a + k - a) w) → length (putMid a (a + k - a) w ys) ≡ length w
+pub back-length : (w ys : List ℕ) (a k : ℕ) → a + k ≤ length w → length ys ≡ length (region a (a + k - a) w)
+    → length (putMid a (a + k - a) w ys) ≡ length w
 back-length w ys a k h e = ap length (part-back w ys a k (λ _. ys) refl) ∙ onPart-length a k (λ _. ys) w h (e ∙ part-length w a k h)
 
 -- a list cut into parts of the lengths given
@@ -84,12 +80,12 @@ spot zero i (s ∷ ss) = i
 spot (suc j) i (s ∷ ss) = s + spot j i ss
 
 -- part j is a region
-pub cut-at : (ss : List ℕ) (j : ℕ) (w : List ℕ) (x : ℕ) → x ≡ spot j 0 ss → getD (cut ss w) j [] ≡ region x (getD ss j 0) w
+pub cut-at : (ss : List ℕ) (j : ℕ) (w : List ℕ) (x : ℕ) → x ≡ spot j 0 ss → getD (cut ss w) j [] ≡ region x (at ss j) w
 unfolding cut spot
 cut-at [] j w x e = refl
 cut-at (s ∷ ss) zero w x e = ap (λ a. region a s w) (sym e)
 cut-at (s ∷ ss) (suc j) w x e =
-    cut-at ss j (drop s w) (spot j 0 ss) refl ∙ ap (take (getD ss j 0)) (drop-drop (spot j 0 ss) s w ∙ ap (λ a. drop a w) (sym e))
+    cut-at ss j (drop s w) (spot j 0 ss) refl ∙ ap (take (at ss j)) (drop-drop (spot j 0 ss) s w ∙ ap (λ a. drop a w) (sym e))
 
 -- cutting off a first part
 pub cut-off : (s : ℕ) (ss xs ys : List ℕ) → length xs ≡ s → cut (s ∷ ss) (xs ++ ys) ≡ xs ∷ cut ss ys
@@ -97,15 +93,18 @@ unfolding cut
 cut-off s ss xs ys e = ap₂ (λ r z. r ∷ cut ss z) (take-at xs ys s e) (drop-at xs ys s e)
 
 -- a word stored in part j
-pub cut-set : (ss : List ℕ) (j i v : ℕ) (w : List ℕ) → i < getD ss j 0 → cut ss (set w (spot j i ss) v) ≡ set (cut ss w) j (set (getD (cut ss w) j []) i v)
+pub cut-set : (ss : List ℕ) (j i v : ℕ) (w : List ℕ) → i < at ss j
+    → cut ss (set w (spot j i ss) v) ≡ set (cut ss w) j (set (getD (cut ss w) j []) i v)
 unfolding cut spot
 cut-set [] j i v w h = absurd (omega arith)
 cut-set (s ∷ ss) zero i v w h = ap₂ (λ r z. r ∷ cut ss z) (take-set-lt s w i v h) (drop-set-lt s w i v h)
 cut-set (s ∷ ss) (suc j) i v w h =
-    ap₂ _∷_ (take-set-le s w _ v (le-add-right s (spot j i ss))) (ap (cut ss) (drop-set-add s w (spot j i ss) v) ∙ cut-set ss j i v (drop s w) h)
+    ap₂ _∷_ (take-set-le s w _ v (le-add-right s (spot j i ss)))
+    (ap (cut ss) (drop-set-add s w (spot j i ss) v) ∙ cut-set ss j i v (drop s w) h)
 
 -- a part of part j changed
-pub cut-part : (ss : List ℕ) (j i k : ℕ) (f : List ℕ → List ℕ) (w : List ℕ) → i + k ≤ getD ss j 0 → spot j (getD ss j 0) ss ≤ length w → length (f (region (spot j i ss) k w)) ≡ k
+pub cut-part : (ss : List ℕ) (j i k : ℕ) (f : List ℕ → List ℕ) (w : List ℕ)
+    → i + k ≤ at ss j → spot j (at ss j) ss ≤ length w → length (f (region (spot j i ss) k w)) ≡ k
     → cut ss (onPart (spot j i ss) k f w) ≡ set (cut ss w) j (onPart i k f (getD (cut ss w) j []))
 unfolding cut spot
 cut-part [] j i k f w h l e = refl

@@ -1,14 +1,12 @@
--- At the entries: a saved sound state comes back with map, allocation segment and free counts; formatting with no erase skipped gives
--- formatted flash; opening zeroed tables gives fresh ones.
-use Prim.Native.Nat.{ℕ, zero, suc, _+_, _*_, _≤_, _<_}
-use native.Mathlib.Omega.{arith}
-use mathlib.Core.Path.{_≡_, refl, sym, ap, _∙_, subst}
-use mathlib.Core.List.{List, [], _∷_, _++_}
+-- At the entries: a saved sound state comes back with map, allocation segment and free counts.
+use Prim.Native.Nat.{ℕ}
+use mathlib.Core.Path.{_≡_, sym, subst}
+use mathlib.Core.List.{List, [], _∷_}
 use lib.ListN.{length, take}
 use Rattle.model.specs.Lists.{zeros}
 use Rattle.model.specs.Numbers.{Geometry, Moved}
-use Rattle.model.specs.Tables.{Tables, tabWords, pages}
-use Rattle.model.specs.Entry.{Recorder, recorder, lent}
+use Rattle.model.specs.Tables.{tabWords, pages}
+use Rattle.model.specs.Entry.{Recorder, lent}
 use Rattle.model.specs.Checkpoint.{restoredFrom, sealed}
 use Rattle.model.specs.History.{Encode, Restore, run, after}
 use Rattle.model.proofs.View.{view-packed}

@@ -5,10 +5,10 @@ use native.Mathlib.Omega.{arith}
 use lib.Pow.{pow-pos}
 use mathlib.Core.Path.{_≡_, refl, sym, ap, ap₂, _∙_}
 use mathlib.Core.Logic.{_⊎_, inl, inr, _≢_}
-use mathlib.Core.Bool.{Bool, true, false, _&&_}
+use mathlib.Core.Bool.{Bool, true, false}
 use mathlib.Core.List.{List, [], _∷_, _++_, append-assoc, append-nil}
 use lib.Dec.{leb}
-use lib.ListN.{length, getD, take, drop, length-append, length-drop}
+use lib.ListN.{length, getD, take, drop, length-append}
 use lib.Seq.{take-at, drop-at, take-append-seam, drop-append-seam, length-take-le}
 use borrow.Author.Tests.{lt-ltb, le-leb, eq-eqb, ltb-true, leb-true, eqb-true}
 use Rattle.crc32.specs.Crc32.{crc32}
@@ -19,12 +19,12 @@ use Rattle.model.specs.Tables.{Tables, at, wordOf}
 use Rattle.model.specs.Checkpoint.{allocOf, file, fileSize, fileTests, freeOf, head, magic, mapOf, reasonOf, restored, restoredFrom, sealed, version}
 use Rattle.model.specs.Checkpoint.{word, long, words, wordAt, longAt, wordsAt}
 use Rattle.model.proofs.Working.{Counted}
-use Rattle.model.proofs.Slots.{same?}
+use Rattle.model.proofs.Slots.{same?, length-splice}
+use Rattle.model.proofs.Tests.{both}
 use Rattle.model.proofs.Address.{below}
 use Rattle.model.proofs.Restore.{Back, round-trip, restored-sound}
 use Rattle.model.proofs.Bytes.{Words, length-word, length-words, length-read, words-append, word-at, long-at, words-at}
 
--- a checksum is a word
 -- how many map entries there are at most
 pub entries : (G : Geometry) → Good G → G .e ≤ 67107840
 entries G K = omega (arith, K .e≤, mul-le-mul (K .n≤) (K .p≤))
@@ -39,8 +39,7 @@ unfolding splice
 drop-spliced d xs = drop-append-seam d (drop (0 + length d) xs) ∙ ap (λ k. drop k xs) (zero-add (length d))
 
 pub length-spliced : (d xs : List ℕ) → length d ≤ length xs → length (splice 0 d xs) ≡ length xs
-unfolding splice
-length-spliced d xs h = simp (length-append, length-drop) (omega arith)
+length-spliced d xs h = length-splice 0 d xs (omega arith)
 
 -- every number is at most p: the test, both ways
 pub up-to : (p : ℕ) (xs : List ℕ) → ((g : ℕ) → at xs g ≤ p) → upTo p xs ≡ true
@@ -51,12 +50,8 @@ up-to p (x ∷ xs) h = rw (le-leb x p (h 0)) (up-to p xs (λ g. h (suc g)))
 pub up-to-at : (p : ℕ) (xs : List ℕ) → upTo p xs ≡ true → (g : ℕ) → at xs g ≤ p
 unfolding upTo
 up-to-at p [] h g = omega arith
-up-to-at p (x ∷ xs) h g = go (leb x p) refl h (λ r. up-to-at p xs r) g
-  where
-    go : (b : Bool) → leb x p ≡ b → (b && upTo p xs) ≡ true → (upTo p xs ≡ true → (g : ℕ) → at xs g ≤ p) → (g : ℕ) → at (x ∷ xs) g ≤ p
-    go true e r ih zero = leb-true x p e
-    go true e r ih (suc g) = ih r g
-    go false e r ih g = absurd (let z : _≡_ {A = ℕ} 0 1 = cc in omega arith)
+up-to-at p (x ∷ xs) h zero = leb-true x p (both (leb x p) (upTo p xs) h .0)
+up-to-at p (x ∷ xs) h (suc g) = up-to-at p xs (both (leb x p) (upTo p xs) h .1) g
 
 -- the first i tests of a list pass
 infixr 5 _then_

@@ -1,26 +1,27 @@
 -- One turn of each inner definition, for the proofs of code: what a test's outcome makes of it. A contract speaks of `.st` and `.answer`; the
 -- operations done are left to the definition.
-use Prim.Native.Nat.{ℕ, zero, suc, _+_, _*_, _-_, _≤_, _<_}
+use Prim.Native.Nat.{ℕ, zero, suc, _≤_, _<_}
 use native.Mathlib.Omega.{arith}
 use mathlib.Core.Path.{_≡_, refl, sym, ap, _∙_, subst}
 use mathlib.Core.Bool.{Bool, true, false, cond}
-use mathlib.Core.Logic.{_⊎_, inl, inr, _≢_}
-use mathlib.Core.List.{List, [], _∷_, _++_}
-use lib.Dec.{eqb, ltb}
-use lib.ListN.{length, take, drop, take-append-drop}
+use mathlib.Core.Logic.{_≢_}
+use mathlib.Core.List.{List, []}
+use lib.Dec.{eqb}
+use lib.ListN.{length}
 use borrow.Author.Tests.{eq-eqb, ne-eqb, lt-ltb, le-ltb}
 use Rattle.model.specs.Lists.{splice, total}
-use Rattle.model.specs.Numbers.{Geometry, Good, Answer, Moved, Refused, Cause, NoRoom, Erase, empty, segOf}
+use Rattle.model.specs.Numbers.{Geometry, Answer, Moved, Refused, Cause, NoRoom, Erase, empty, segOf}
 use Rattle.model.specs.Tables.{Tables, at, wordOf}
 use Rattle.model.specs.Sound.{Mapped}
 use Rattle.model.specs.Device.{State, state, Out, out, mayProgram, mayErase, finish, refuse, goOn}
-use Rattle.model.specs.Contract.{Fit, Done}
+use Rattle.model.specs.Contract.{Done}
 use Rattle.model.specs.PageMap.{Found, At, Nothing, find, invalidate, forget}
 use Rattle.model.specs.PageWrite.{whole, oldPage, stored, spent, writeAt, writePage}
-use Rattle.model.specs.PageGc.{ofCopy, copyAnswer, victim, taken, cleared, finishOf, lastOf, copyOne, drain, collectOf, collect, collectMore, collectList, collectThreshold}
-use Rattle.model.proofs.Working.{Counted}
-use Rattle.model.proofs.Content.{old-mapped, splice-whole, page-length}
+use Rattle.model.specs.PageGc.{ofCopy, copyAnswer, victim, taken, cleared, finishOf, lastOf, drain, collectOf, collect, collectMore, collectList, collectThreshold}
+use Rattle.model.proofs.Slots.{whole-splice}
+use Rattle.model.proofs.Content.{old-mapped}
 
+-- forgetting
 pub forget-none : (G : Geometry) (l : ℕ) (t : Tables) → wordOf t l ≡ empty → forget G l t ≡ t
 unfolding forget
 forget-none G l t e = rw (eq-eqb (wordOf t l) empty e)
@@ -56,7 +57,7 @@ module _ (G : Geometry) (bad : List ℕ) where
     same-page : splice 0 (whole G st l) (oldPage G st l) ≡ splice 0 [] (oldPage G st l)
     unfolding splice
     same-page =
-        splice-whole G (whole G st l) (oldPage G st l) (ap length (sym (old-mapped G st l m))) ∙ sym (old-mapped G st l m)
+        whole-splice (whole G st l) (oldPage G st l) (ap length (sym (old-mapped G st l m))) ∙ sym (old-mapped G st l m)
 
     -- o is the copy, w the write of no bytes
     record Same (o w : Out) : Type 0 where
@@ -68,7 +69,9 @@ module _ (G : Geometry) (bad : List ℕ) where
     unfolding writePage writeAt
     same = go (find G bad (st .tab))
       where
-        stored-same : (g k : ℕ) → Same (stored G l (length (whole G st l)) g k (splice 0 (whole G st l) (oldPage G st l)) st) (stored G l 0 g k (splice 0 [] (oldPage G st l)) st)
+        stored-same : (g k : ℕ)
+            → Same (stored G l (length (whole G st l)) g k (splice 0 (whole G st l) (oldPage G st l)) st)
+            (stored G l 0 g k (splice 0 [] (oldPage G st l)) st)
         stored-same g k =
             record {
               left = ap (λ page. stored G l 0 g k page st .st) same-page;
@@ -93,15 +96,19 @@ module _ (G : Geometry) (bad : List ℕ) where
     abbrev copy : Out
     copy = writePage G bad l 0 (whole G st l) st
 
-    drain-is : (b : ℕ) → drain G bad (suc b) v st ≡ goOn (copyAnswer (copy .answer)) (out (copy .st) (copyAnswer (copy .answer)) (copy .ops)) (λ st′. drain G bad b v st′)
+    abbrev drainOn : ℕ → Answer → Out
+    drainOn b a = goOn (copyAnswer a) (out (copy .st) (copyAnswer a) (copy .ops)) (λ st′. drain G bad b v st′)
+
+    drain-is : (b : ℕ) → drain G bad (suc b) v st ≡ drainOn b (copy .answer)
     unfolding drain
     drain-is b = rw (ne-eqb (at (st .tab .lens) v) 0 some)
 
     -- a copy that was done
-    pub drain-more : (b k : ℕ) (r : Answer) (s : State) → rewrite .answer ≡ Moved k → Done (drain G bad b v (rewrite .st)) r s → Done (drain G bad (suc b) v st) r s
+    pub drain-more : (b k : ℕ) (r : Answer) (s : State) → rewrite .answer ≡ Moved k → Done (drain G bad b v (rewrite .st)) r s
+        → Done (drain G bad (suc b) v st) r s
     drain-more b k r s e D =
         let c : (j : ℕ) × (copy .answer ≡ Moved j) = same .done k e in
-        subst (λ o. Done o r s) (sym (drain-is b ∙ ap (λ a. goOn (copyAnswer a) (out (copy .st) (copyAnswer a) (copy .ops)) (λ st′. drain G bad b v st′)) (c .1)))
+        subst (λ o. Done o r s) (sym (drain-is b ∙ ap (drainOn b) (c .1)))
         (record {
           answer = D .answer ∙ ap (λ z. drain G bad b v z .answer) (sym (same .left));
           left = D .left ∙ ap (λ z. drain G bad b v z .st) (sym (same .left));
@@ -111,7 +118,7 @@ module _ (G : Geometry) (bad : List ℕ) where
     pub drain-stops : (b : ℕ) (c : Cause) (r : Answer) (s : State) → rewrite .answer ≡ Refused c → r ≡ Refused (ofCopy c) → s ≡ rewrite .st
         → Done (drain G bad (suc b) v st) r s
     drain-stops b c r s e p q =
-        subst (λ o. Done o r s) (sym (drain-is b ∙ ap (λ a. goOn (copyAnswer a) (out (copy .st) (copyAnswer a) (copy .ops)) (λ st′. drain G bad b v st′)) (same .refused c e)))
+        subst (λ o. Done o r s) (sym (drain-is b ∙ ap (drainOn b) (same .refused c e)))
         (record { answer = p; left = q ∙ sym (same .left) })
 
   pub drain-empty : (b v : ℕ) (st : State) → at (st .tab .lens) v ≡ 0 → drain G bad b v st ≡ finish 0 st
@@ -139,7 +146,8 @@ module _ (G : Geometry) (bad : List ℕ) where
         D
 
     -- all were done: the erase decides
-    pub collect-ends : (k : ℕ) (r : Answer) (s s′ : State) → Done drained (Moved k) s → Done (finishOf G (victim (st .tab)) s) r s′ → Done (collect G bad st) r s′
+    pub collect-ends : (k : ℕ) (r : Answer) (s s′ : State) → Done drained (Moved k) s → Done (finishOf G (victim (st .tab)) s) r s′
+        → Done (collect G bad st) r s′
     collect-ends k r s s′ D E =
         subst (λ o. Done o r s′) (sym (collect-is ∙ ap (λ a. goOn a drained (λ st′. finishOf G (victim (st .tab)) st′)) (sym (D .answer))))
         (record {

@@ -153,7 +153,7 @@ module _ (G : Geometry) (w u : List ℕ) where
   row-at g h = region-region (oLists G) (pages G) (g * G.p) G.p w (part-fits G.p h)
 
   -- one word stored: one region set, and so one field
-  stored : (j i v x : ℕ) → x ≡ spot j i (sizes G) → i < getD (sizes G) j 0
+  stored : (j i v x : ℕ) → x ≡ spot j i (sizes G) → i < at (sizes G) j
       → view G (set w x v) u ≡ made (set (cut (sizes G) w) j (set (getD (cut (sizes G) w) j []) i v)) u
   stored j i v x e h = view-cut G (set w x v) u ∙ ap (λ rs. made rs u) (ap (λ y. cut (sizes G) (set w y v)) e ∙ cut-set (sizes G) j i v w h)
 
@@ -186,8 +186,9 @@ module _ (G : Geometry) (w u : List ℕ) where
   set-lists i v h = rw (stored 8 i v (oLists G + i) (omega arith) h, view-cut G w u)
 
   -- a region of one word holds what was stored there
-  one-word : (j v x : ℕ) → x ≡ spot j 0 (sizes G) → getD (sizes G) j 0 ≡ 1 → x < length w → at (set (getD (cut (sizes G) w) j []) 0 v) 0 ≡ v
-  one-word j v x e one h = getD-set-same (getD (cut (sizes G) w) j []) 0 v 0 (rw (cut-at (sizes G) j w x e, one, region-length x 1 w (omega arith)) (omega arith))
+  one-word : (j v x : ℕ) → x ≡ spot j 0 (sizes G) → at (sizes G) j ≡ 1 → x < length w → at (set (getD (cut (sizes G) w) j []) 0 v) 0 ≡ v
+  one-word j v x e one h =
+      getD-set-same (getD (cut (sizes G) w) j []) 0 v 0 (rw (cut-at (sizes G) j w x e, one, region-length x 1 w (omega arith)) (omega arith))
 
   pub set-alloc : (v : ℕ) → oAlloc G < length w → view G (set w (oAlloc G) v) u ≡ setAlloc v (view G w u)
   unfolding made sizes cut spot
@@ -208,7 +209,7 @@ module _ (G : Geometry) (w u : List ℕ) where
 
   -- a lent part that has come back, changed by f: one region changed by f, and so one field
   module _ (f : List ℕ → List ℕ) (h : length w ≡ tabWords G) where
-    lent : (j i k x : ℕ) → x ≡ spot j i (sizes G) → i + k ≤ getD (sizes G) j 0 → spot j (getD (sizes G) j 0) (sizes G) ≤ length w → length (f (region x k w)) ≡ k
+    lent : (j i k x : ℕ) → x ≡ spot j i (sizes G) → i + k ≤ at (sizes G) j → spot j (at (sizes G) j) (sizes G) ≤ length w → length (f (region x k w)) ≡ k
         → view G (onPart x k f w) u ≡ made (set (cut (sizes G) w) j (onPart i k f (getD (cut (sizes G) w) j []))) u
     lent j i k x e hk l q =
         view-cut G (onPart x k f w) u
