@@ -1,0 +1,70 @@
+-- One step of the walk over segments and of the scan of a segment's marks. Assumes nothing.
+use Prim.Native.Nat.{ℕ, zero, suc, _+_, _*_, _-_, _%_, _≤_, _<_}
+use native.Mathlib.Nat.{mod-lt, sub-zero}
+use native.Mathlib.Numerals.{add-one}
+use native.Mathlib.Omega.{arith}
+use mathlib.Core.Path.{_≡_}
+use mathlib.Core.Logic.{_≢_}
+use mathlib.Core.Bool.{cond}
+use mathlib.Core.List.{List}
+use borrow.Author.Tests.{eq-eqb, ne-eqb, lt-ltb}
+use Rattle.model.specs.declared.Geometry.{Geometry}
+use Rattle.model.specs.Tables.{at, view, oFree}
+use Rattle.model.specs.declared.Found.{Found}
+use Rattle.model.specs.declared.Found.the-variants.{At, Nothing}
+use Rattle.model.specs.PageMap.{clearFrom, orElse, usable, findFrom, find}
+use Rattle.model.proofs.View.{free-at, used-is}
+
+step : {i n : ℕ} → i < n → n - i ≡ suc (n - (i + 1))
+step h = omega arith
+
+done : {i n : ℕ} → n ≤ i → n - i ≡ zero
+done h = omega arith
+
+module _ (G : Geometry) (used : List ℕ) (g k : ℕ) (r : Found) where
+  pub scan-hit : k < G .p → at used (g * G .p + k) ≡ 0 → orElse (clearFrom G used g k (G .p - k)) r ≡ At g k
+  unfolding clearFrom
+  scan-hit h e = rw (step h, eq-eqb _ _ e)
+
+  pub scan-miss : k < G .p → at used (g * G .p + k) ≢ 0 → orElse (clearFrom G used g k (G .p - k)) r ≡ orElse (clearFrom G used g (k + 1) (G .p - (k + 1))) r
+  unfolding clearFrom
+  scan-miss h e = rw (step h, ne-eqb _ _ e, add-one k)
+
+  pub scan-end : G .p ≤ k → orElse (clearFrom G used g k (G .p - k)) r ≡ r
+  unfolding clearFrom
+  scan-end h = rw (done h)
+
+module _ (G : Geometry) (bad w u : List ℕ) (i : ℕ) where
+  -- what is found from the i-th segment on
+  abbrev pub from : Found
+  from = findFrom G bad (view G w u) i (G .n - i)
+
+  pub walk-end : G .n ≤ i → from ≡ Nothing
+  unfolding findFrom
+  walk-end h = rw (done h)
+
+pub find-is : (G : Geometry) (bad w u : List ℕ) → find G bad (view G w u) ≡ from G bad w u 0
+unfolding find
+find-is G bad w u = rw sub-zero
+
+-- g is the i-th segment
+module _ (G : Geometry) (bad w u : List ℕ) (i : ℕ) (h : i < G .n) (g : ℕ) (is : g ≡ (view G w u .alloc + i) % G .n) where
+  abbrev pub next : Found
+  next = from G bad w u (i + 1)
+
+  free-is : at (view G w u .free) g ≡ at w (oFree G + g)
+  free-is = let low : (view G w u .alloc + i) % G .n < G .n = mod-lt _ (omega arith) in free-at G w u g 0 (omega arith)
+
+  -- one step, by the two tests
+  walk-step : from G bad w u i ≡ cond (usable G bad (view G w u) g) (orElse (clearFrom G u g 0 (G .p - 0)) next) next
+  unfolding findFrom
+  walk-step = rw (step h, is, add-one i, sub-zero, used-is G w u)
+
+  pub walk-bad : at bad g ≢ 0 → from G bad w u i ≡ next
+  walk-bad b = rw (walk-step, ne-eqb _ _ b)
+
+  pub walk-full : at bad g ≡ 0 → at w (oFree G + g) ≡ 0 → from G bad w u i ≡ next
+  walk-full b f = rw (walk-step, eq-eqb _ _ b, free-is, f)
+
+  pub walk-scan : at bad g ≡ 0 → at w (oFree G + g) ≢ 0 → from G bad w u i ≡ orElse (clearFrom G u g 0 (G .p - 0)) next
+  walk-scan b f = let f′ : 0 < at w (oFree G + g) = omega arith in rw (walk-step, eq-eqb _ _ b, free-is, lt-ltb _ _ f′)

@@ -1,0 +1,9 @@
+pub mod Says
+pub mod Counts
+pub mod Marked
+pub mod Bijection
+pub mod Placed
+pub mod Flat
+pub mod Scratch
+pub mod Lent
+pub mod Whole
