@@ -1,0 +1,2 @@
+pub mod And
+pub mod Signed

@@ -1,0 +1,101 @@
+// What the public entries test first, and the number of an answer.
+ghost use mathlib.Core.Path.{_≡_};
+ghost use mathlib.Core.Bool.{_&&_};
+ghost use Prim.Native.Nat.{_+_, _*_, _<_};
+ghost use lib.Dec.{eqb};
+ghost use lib.ListN.{length};
+ghost use Rattle.model.specs.Lists.{blank};
+ghost use Rattle.model.specs.Numbers.{Good, refusal, negated, number};
+ghost use Rattle.model.specs.Tables.{tabWords, pages};
+ghost use Rattle.guard.specs.Countable.{Known, Countable};
+use model::Answer;
+use model::Cause;
+use model::Geometry;
+
+// The tables' sizes.
+pub fn tables_fit(geo: Geometry, tab: &[u32], used: &[u8]) -> bool
+    requires { ⌜ Good geo ⌝ }
+    ensures { λ r. ⌜ r ≡ (eqb (length (now (tab .entry))) (tabWords geo) && eqb (length (now (used .entry))) (pages geo)) ⌝ }
+{
+    let all = geo.n * geo.p;
+    if tab.len() != geo.e + geo.n * 5 + 2 + all {
+        return false;
+    }
+    used.len() == all
+}
+
+pub fn bytes_fit(geo: Geometry, bytes: &[u8]) -> bool
+    requires { ⌜ Good geo ⌝ }
+    ensures { λ r. ⌜ r ≡ eqb (length (now (bytes .entry))) (pages geo * geo .s) ⌝ }
+{
+    bytes.len() == geo.n * geo.p * geo.s
+}
+
+// The flash's sizes.
+pub fn flash_fits(geo: Geometry, bytes: &[u8], marks: &[u8], counts: &[u32]) -> bool
+    requires { ⌜ Good geo ⌝ }
+    ensures { λ r. ⌜ r ≡ (eqb (length (now (bytes .entry))) (pages geo * geo .s) && (eqb (length (now (marks .entry))) (pages geo) && eqb (length (now (counts .entry))) (geo .n))) ⌝ }
+{
+    if !bytes_fit(geo, bytes) {
+        return false;
+    }
+    if marks.len() != geo.n * geo.p {
+        return false;
+    }
+    counts.len() == geo.n
+}
+
+// Scratch of k bytes, and of k words: the right size, and all zero.
+pub fn clean(s: &[u8], k: usize) -> bool
+    ensures { λ r. ⌜ r ≡ (eqb (length (now (s .entry))) k && blank (now (s .entry))) ⌝ }
+{
+    if s.len() != k {
+        return false;
+    }
+    sound::blank(s)
+}
+
+pub fn clean_words(s: &[u32], k: usize) -> bool
+    ensures { λ r. ⌜ r ≡ (eqb (length (now (s .entry))) k && blank (now (s .entry))) ⌝ }
+{
+    if s.len() != k {
+        return false;
+    }
+    sound::blank_words(s)
+}
+
+// "a refusal number": document 01's table.
+fn refusal(c: Cause) -> usize
+    requires { ⌜ Known c ⌝ }
+    ensures { λ r. ⌜ (r ≡ refusal c) × (r < 4096) ⌝ }
+{
+    match c {
+        Cause::Wrong => 22,
+        Cause::Unsound => 117,
+        Cause::Unmapped => 61,
+        Cause::NoRoom => 14,
+        Cause::Device => 5,
+        Cause::CopyNoRoom => 14,
+        Cause::CopyDevice => 14,
+        Cause::Erase => 5,
+        Cause::Reason(r) => r,
+    }
+}
+
+fn negated(r: usize) -> i64
+    requires { ⌜ r < 4096 ⌝ }
+    ensures { λ a. ⌜ a ≡ negated r ⌝ }
+{
+    -(r as i64)
+}
+
+// "Each call answers one signed number: bytes moved, or a refusal number negated."
+pub fn number(a: Answer) -> i64
+    requires { ⌜ Countable a ⌝ }
+    ensures { λ r. ⌜ r ≡ number a ⌝ }
+{
+    match a {
+        Answer::Moved(m) => m as i64,
+        Answer::Refused(c) => negated(refusal(c)),
+    }
+}
