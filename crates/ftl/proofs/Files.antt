@@ -1,0 +1,83 @@
+-- Restoring and encoding, way by way.
+use Prim.Native.Nat.{ℕ, _<_}
+use native.Mathlib.Omega.{arith}
+use mathlib.Core.Path.{_≡_, refl, ap, _∙_}
+use mathlib.Core.Logic.{_≢_}
+use mathlib.Core.Bool.{Bool, true, false}
+use mathlib.Core.List.{List, [], _∷_}
+use lib.Dec.{leb}
+use lib.ListN.{length}
+use lib.IntN.{ℤ, pos}
+use borrow.Author.Tests.{eq-eqb, ne-eqb}
+use Rattle.model.specs.declared.Geometry.{Geometry}
+use Rattle.model.specs.declared.Cause.the-variants.{Wrong, Unsound, Reason}
+use Rattle.model.specs.declared.Answer.the-variants.{Refused}
+use Rattle.model.specs.Lists.{every, splice}
+use Rattle.model.specs.Numbers.{Good, good?, number}
+use Rattle.model.specs.Tables.{tabWords, pages, view}
+use Rattle.model.specs.Sound.{soundb}
+use Rattle.model.specs.Checkpoint.{fileSize, sealed, reasonOf, restoredFrom}
+use Rattle.model.specs.Entry.{Lent, lent, recorder, Promise, tablesOf, tablesFit, clean, seenScratch, restoring, encoding}
+use Rattle.model.proofs.Held.{slots}
+use Rattle.model.proofs.Refusals.{guarded-sound}
+use Rattle.model.proofs.Guard.{guarded-passes, unless-passes}
+use Rattle.ftl.proofs.Guards.{by, all-sizes, bad-geometry, bad-size, unless-fails}
+use Rattle.ftl.proofs.Opening.{words-are, marks-are}
+
+-- the length of a file is a signed word
+pub file-small : (G : Geometry) → Good G → fileSize G < 9223372036854775808
+file-small G K = omega (arith, slots K, K .e≤, K .n≤)
+
+module _ (G : Geometry) (b : List ℕ) (x : Lent) where
+  -- what restoring tests beside the geometry
+  abbrev pub restoreTests : List Bool
+  restoreTests = tablesFit G x ∷ clean (pages G ∷ []) (x .scratch) ∷ []
+
+  pub restoring-wrong : good? G ≡ false → Promise (restoring G b x) x (number (Refused Wrong))
+  unfolding restoring
+  restoring-wrong = bad-geometry G restoreTests true true true x _
+
+  pub restoring-size : every restoreTests ≡ false → Promise (restoring G b x) x (number (Refused Wrong))
+  unfolding restoring
+  restoring-size = bad-size G restoreTests true true true x _
+
+  module _ (g : good? G ≡ true) (e : every restoreTests ≡ true) where
+    pub restoring-reason : (k : ℕ) (r : ℤ) → k ≡ reasonOf G b → k ≢ 0 → r ≡ number (Refused (Reason k)) → Promise (restoring G b x) x r
+    unfolding restoring
+    restoring-reason k r q h n =
+        by (guarded-passes _ true true true x _ (all-sizes G restoreTests g e) refl refl refl ∙ unless-fails _ _ x _ (ne-eqb (reasonOf G b) 0 (λ z. h (q ∙ z))))
+        (record { left-is = refl; answer-is = n ∙ ap (λ m. number (Refused (Reason m))) q })
+
+    pub restoring-done : reasonOf G b ≡ 0 → (w u : List ℕ) (s : List (List ℕ)) → length w ≡ tabWords G → view G w u ≡ restoredFrom G b → s ≡ x .scratch
+        → Promise (restoring G b x) (lent (recorder w u (x .unit .flash)) (x .buffer) s) (pos 0)
+    unfolding restoring
+    restoring-done r w u s h v q =
+        by (guarded-passes _ true true true x _ (all-sizes G restoreTests g e) refl refl refl ∙ unless-passes _ _ x _ (eq-eqb (reasonOf G b) 0 r))
+        (record { left-is = cc (words-are G w u _ h v, marks-are G w u _ h v, q); answer-is = refl })
+
+module _ (G : Geometry) (x : Lent) where
+  -- what encoding tests beside the geometry
+  abbrev pub encodeTests : List Bool
+  encodeTests = tablesFit G x ∷ leb (fileSize G) (length (x .buffer)) ∷ clean (seenScratch G ∷ []) (x .scratch) ∷ []
+
+  pub encoding-wrong : good? G ≡ false → Promise (encoding G x) x (number (Refused Wrong))
+  unfolding encoding
+  encoding-wrong = bad-geometry G encodeTests _ true true x _
+
+  pub encoding-size : every encodeTests ≡ false → Promise (encoding G x) x (number (Refused Wrong))
+  unfolding encoding
+  encoding-size = bad-size G encodeTests _ true true x _
+
+  module _ (g : good? G ≡ true) (e : every encodeTests ≡ true) (s : List (List ℕ)) (q : s ≡ x .scratch) where
+    pub encoding-unsound : soundb G (tablesOf G x) ≡ false → Promise (encoding G x) (lent (x .unit) (x .buffer) s) (number (Refused Unsound))
+    unfolding encoding
+    encoding-unsound h =
+        by (guarded-sound _ _ true true x _ (all-sizes G encodeTests g e) h)
+        (record { left-is = ap (lent (x .unit) (x .buffer)) q; answer-is = refl })
+
+    pub encoding-done : soundb G (tablesOf G x) ≡ true → (d : List ℕ) (r : ℤ) → d ≡ splice 0 (sealed G (tablesOf G x)) (x .buffer) → r ≡ pos (fileSize G)
+        → Promise (encoding G x) (lent (x .unit) d s) r
+    unfolding encoding
+    encoding-done h d r v n =
+        by (guarded-passes _ _ true true x _ (all-sizes G encodeTests g e) h refl refl)
+        (record { left-is = cc (v, q); answer-is = n })

@@ -1,0 +1,79 @@
+-- How an entry's first tests end: the geometry's, and those of the sizes behind it.
+use Prim.Native.Nat.{ℕ}
+use mathlib.Core.Path.{_≡_, refl, sym, ap, _∙_, subst}
+use mathlib.Core.Bool.{Bool, true, false, _&&_}
+use mathlib.Core.List.{List, [], _∷_}
+use lib.IntN.{ℤ}
+use lib.Dec.{eqb}
+use lib.ListN.{length, getD}
+use borrow.Author.Tests.{eqb-true}
+use Rattle.model.specs.Lists.{every, blank, zeros}
+use Rattle.model.specs.declared.Geometry.{Geometry}
+use Rattle.model.specs.declared.Cause.{Cause}
+use Rattle.model.specs.declared.Cause.the-variants.{Wrong}
+use Rattle.model.specs.declared.Answer.the-variants.{Refused}
+use Rattle.model.specs.Numbers.{good?, number}
+use Rattle.model.specs.Entry.{Lent, Outcome, Promise, refused, unless, guarded, clean}
+use Rattle.model.proofs.Refusals.{every-not, promised, guarded-sizes}
+use Rattle.model.proofs.Guard.{both}
+use Rattle.sound.proofs.Counts.{blank-zeros}
+
+-- a promise of an outcome is one of the same outcome by another name
+pub by : {o o′ : Outcome} {y : Lent} {r : ℤ} → o ≡ o′ → Promise o′ y r → Promise o y r
+by {y = y} {r = r} e = subst (λ o. Promise o y r) (sym e)
+
+-- a test that answers what it should, and what it answered
+pub told : {r t b : Bool} → r ≡ t → r ≡ b → t ≡ b
+told e f = sym e ∙ f
+
+-- refused by a test behind the guard
+pub unless-fails : (b : Bool) (c : Cause) (x : Lent) (o : Outcome) → b ≡ false → unless b c x o ≡ refused c x
+unfolding unless
+unless-fails b c x o e = rw e
+
+module _ (G : Geometry) (ts : List Bool) where
+  pub all-sizes : good? G ≡ true → every ts ≡ true → every (good? G ∷ ts) ≡ true
+  unfolding every
+  all-sizes g e = rw (g, e)
+
+  not-sizes : every ts ≡ false → every (good? G ∷ ts) ≡ false
+  unfolding every
+  not-sizes e = go (good? G)
+    where
+      go : (b : Bool) → (b && every ts) ≡ false
+      go true = e
+      go false = refl
+
+  module _ (b c d : Bool) (x : Lent) (o : Outcome) where
+    -- refused for the geometry, and for a size
+    pub bad-geometry : good? G ≡ false → Promise (guarded (every (good? G ∷ ts)) b c d x o) x (number (Refused Wrong))
+    unfolding every
+    bad-geometry e = by (guarded-sizes (every (good? G ∷ ts)) b c d x o (rw e)) (promised refl)
+
+    pub bad-size : every ts ≡ false → Promise (guarded (every (good? G ∷ ts)) b c d x o) x (number (Refused Wrong))
+    bad-size e = by (guarded-sizes (every (good? G ∷ ts)) b c d x o (not-sizes e)) (promised refl)
+
+-- a row of tests: one that fails, one that passes, and the last, of scratch
+pub fails : (bs : List Bool) (i : ℕ) → getD bs i true ≡ false → false ≡ every bs
+fails bs i e = sym (every-not bs i e)
+
+pub rest : {r : Bool} (b : Bool) (bs : List Bool) → b ≡ true → r ≡ every bs → r ≡ every (b ∷ bs)
+unfolding every
+rest b bs e f = f ∙ sym (ap (λ (c : Bool). c && every bs) e)
+
+and-true : (b : Bool) → (b && true) ≡ b
+and-true true = refl
+and-true false = refl
+
+pub scratch-test : {r : Bool} (k : ℕ) (s : List ℕ) → r ≡ (eqb (length s) k && blank s) → r ≡ every (clean (k ∷ []) (s ∷ []) ∷ [])
+unfolding every clean
+scratch-test k s e = e ∙ sym (and-true ((eqb (length s) k && blank s) && true) ∙ and-true (eqb (length s) k && blank s))
+
+-- clean scratch is zeros
+pub clean-is : (k : ℕ) (s : List ℕ) → clean (k ∷ []) (s ∷ []) ≡ true → s ≡ zeros k
+unfolding clean
+clean-is k s e =
+    let h : ((eqb (length s) k && blank s) ≡ true) × (true ≡ true) = both _ _ e in
+    let q : (eqb (length s) k ≡ true) × (blank s ≡ true) = both _ _ (h .0) in
+    let l : length s ≡ k = eqb-true _ _ (q .0) in
+    blank-zeros s (q .1) ∙ ap (λ m. zeros m) l
