@@ -36,14 +36,37 @@ use Rattle.model.proofs.Collect.{W, last-in, Kept, collected}
 use Rattle.guard.specs.Countable.{Known, Countable}
 use Rattle.guard.proofs.Signed.{small}
 
--- a count of at most k, or a refusal that is no reason out of range
+-- the causes of a call's own deed, behind its tests
+abbrev pub Deed : Cause → Type 0
+Deed Wrong = ⊥
+Deed Unsound = ⊥
+Deed Unmapped = ⊥
+Deed NoRoom = Unit {0}
+Deed Device = Unit {0}
+Deed CopyNoRoom = Unit {0}
+Deed CopyDevice = Unit {0}
+Deed Erase = Unit {0}
+Deed (Reason r) = ⊥
+
+deed-known : (c : Cause) → Deed c → Known c
+deed-known Wrong h = tt
+deed-known Unsound h = tt
+deed-known Unmapped h = tt
+deed-known NoRoom h = tt
+deed-known Device h = tt
+deed-known CopyNoRoom h = tt
+deed-known CopyDevice h = tt
+deed-known Erase h = tt
+deed-known (Reason r) h = absurd h
+
+-- a count of at most k, or such a cause
 abbrev pub Upto : ℕ → Answer → Type 0
 Upto k (Moved m) = m ≤ k
-Upto k (Refused c) = Known c
+Upto k (Refused c) = Deed c
 
 pub upto-countable : (k : ℕ) (a : Answer) → k < 9223372036854775808 → Upto k a → Countable a
 upto-countable k (Moved m) h u = omega arith
-upto-countable k (Refused c) h u = u
+upto-countable k (Refused c) h u = deed-known c u
 
 -- the answer's number, read back from a signed word
 known-small : (c : Cause) → Known c → refusal c < 4096
@@ -74,20 +97,20 @@ upto-then : (j k : ℕ) (a : Answer) (o : Out) (f : State → Out) → o .answer
 upto-then j k (Moved m) o f e h r = r
 upto-then j k (Refused c) o f e h r = subst (Upto k) (sym e) h
 
-copy-known : (c : Cause) → Known c → Known (ofCopy c)
-copy-known Wrong h = tt
-copy-known Unsound h = tt
-copy-known Unmapped h = tt
-copy-known NoRoom h = tt
-copy-known Device h = tt
-copy-known CopyNoRoom h = tt
-copy-known CopyDevice h = tt
-copy-known Erase h = tt
-copy-known (Reason r) h = h
+copy-deed : (c : Cause) → Deed c → Deed (ofCopy c)
+copy-deed Wrong h = h
+copy-deed Unsound h = h
+copy-deed Unmapped h = h
+copy-deed NoRoom h = tt
+copy-deed Device h = tt
+copy-deed CopyNoRoom h = tt
+copy-deed CopyDevice h = tt
+copy-deed Erase h = tt
+copy-deed (Reason r) h = h
 
 upto-copy : (k : ℕ) (a : Answer) → Upto k a → Upto k (copyAnswer a)
 upto-copy k (Moved m) h = h
-upto-copy k (Refused c) h = copy-known c h
+upto-copy k (Refused c) h = copy-deed c h
 
 module _ (G : Geometry) (bad : List ℕ) where
   -- ---- the answers
@@ -131,7 +154,7 @@ module _ (G : Geometry) (bad : List ℕ) where
   abbrev first : State → Out
   first st = drain G bad (G .p) (victim (st .tab)) (state (taken (st .tab)) (st .flash))
 
-  collect-upto : (st : State) → Upto 0 (collect G bad st .answer)
+  pub collect-upto : (st : State) → Upto 0 (collect G bad st .answer)
   unfolding collect collectOf
   collect-upto st = go (eqb (st .tab .queued) 0)
     where

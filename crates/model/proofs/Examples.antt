@@ -77,7 +77,7 @@ fill (x ∷ xs) = four x x x x ++ fill xs
 abbrev none : ℕ
 none = 0xFFFFFFFF
 
--- replies: a count; a refusal number; a count, and what is in the buffer
+-- replies: a count; a refusal number; a count, or a refusal number, and what is in the buffer
 abbrev moved : ℕ → Reply
 moved m = record { answer = pos m; buffer = [] }
 
@@ -86,6 +86,9 @@ refused c = record { answer = negsuc (c - 1); buffer = [] }
 
 abbrev shows : ℕ → List ℕ → Reply
 shows m b = record { answer = pos m; buffer = b }
+
+abbrev keeps : ℕ → List ℕ → Reply
+keeps c b = record { answer = negsuc (c - 1); buffer = b }
 
 -- The calls, each with scratch of the right sizes: bytes put at a sector, a whole page of bytes x, bytes got, the three collections, a checkpoint
 -- into 66 bytes of 9, a restore.
@@ -315,6 +318,9 @@ table =
     (flash
     (fill (two 255 255) ++ four 0x77 0x78 0x79 0x7A ++ four 0x61 0x63 0 0 ++ fill (two 255 255))
     (six 0 0 1 1 0 0) (three 1 0 0) endless))
+    -- a read past its page's end gets 22, mapped or not; an unmapped page 61; over unsound tables 117
+    ∷ new A (get 1 4 ∷ get 0 4 ∷ []) (keeps 22 (zeros 4) ∷ keeps 61 (zeros 4) ∷ []) untouched
+    ∷ row A (mem (litter 1) (worn endless)) (get 0 4 ∷ []) (keeps 117 (zeros 4) ∷ []) (mem (litter 1) (worn endless))
     -- opening keeps an allocation segment below n and sets another to 0; it leaves the flash
     ∷ row A (mem (litter 1) (worn endless))
     (opens ∷ [])
