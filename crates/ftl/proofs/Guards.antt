@@ -6,7 +6,6 @@ use mathlib.Core.List.{List, [], _∷_}
 use lib.IntN.{ℤ}
 use lib.Dec.{eqb}
 use lib.ListN.{length, getD}
-use borrow.Author.Tests.{eqb-true}
 use Rattle.model.specs.Lists.{every, blank, zeros}
 use Rattle.model.specs.declared.Geometry.{Geometry}
 use Rattle.model.specs.declared.Cause.{Cause}
@@ -16,7 +15,7 @@ use Rattle.model.specs.Numbers.{good?, number}
 use Rattle.model.specs.Entry.{Lent, Outcome, Promise, refused, unless, guarded, clean}
 use Rattle.model.proofs.Refusals.{every-not, promised, guarded-sizes}
 use Rattle.model.proofs.Guard.{both}
-use Rattle.sound.proofs.Counts.{blank-zeros}
+use Rattle.ftl.proofs.Passing.{clean-zeros}
 
 -- a promise of an outcome is one of the same outcome by another name
 pub by : {o o′ : Outcome} {y : Lent} {r : ℤ} → o ≡ o′ → Promise o′ y r → Promise o y r
@@ -72,8 +71,4 @@ scratch-test k s e = e ∙ sym (and-true ((eqb (length s) k && blank s) && true)
 -- clean scratch is zeros
 pub clean-is : (k : ℕ) (s : List ℕ) → clean (k ∷ []) (s ∷ []) ≡ true → s ≡ zeros k
 unfolding clean
-clean-is k s e =
-    let h : ((eqb (length s) k && blank s) ≡ true) × (true ≡ true) = both _ _ e in
-    let q : (eqb (length s) k ≡ true) × (blank s ≡ true) = both _ _ (h .0) in
-    let l : length s ≡ k = eqb-true _ _ (q .0) in
-    blank-zeros s (q .1) ∙ ap (λ m. zeros m) l
+clean-is k s e = clean-zeros k s (both (eqb (length s) k && blank s) true e .0)
