@@ -11,6 +11,9 @@ pub use Rattle.model.specs.declared.Cause.the-variants.{Wrong, Unsound, 
 pub use Rattle.model.specs.declared.Answer.{Answer}
 pub use Rattle.model.specs.declared.Answer.the-variants.{Moved, Refused}
 
+abbrev pub geometry : (n p s w e limit : ℕ) → Geometry
+geometry n p s w e limit = record { n = n; p = p; s = s; w = w; e = e; limit = limit }
+
 -- "n segments (1 to 65,535), p pages in each (1 to 1,024), page size s (1 to 16,384), address width w (0 to 16, with p at most 2^w),
 -- e map entries (1 to n·p), erase limit (0 to 2^32-1)."
 pub record Good (G : Geometry) : Type 0 where

@@ -1,0 +1,658 @@
+// The public entries and the sizes under C names, for programs in other languages. A geometry is its six numbers, a slice a pointer and a length.
+ghost use mathlib.Core.Path.{_≡_};
+ghost use mathlib.Core.List.{[], _∷_};
+ghost use Rattle.crc32.specs.Crc32.{crc32};
+ghost use Rattle.model.specs.Numbers.{Good, geometry};
+ghost use Rattle.model.specs.Device.{flash};
+ghost use Rattle.model.specs.Entry.{recorder, lent, noFlash, Promise};
+ghost use Rattle.model.specs.Entry.{formatting, opening, read, write, collection, listCollection, thresholdCollection, encoding, restoring};
+ghost use Rattle.ffi.specs.Sizes.{Size, sizeOf, sized};
+use model::Geometry;
+
+// Every segment erased, counts 0.
+#[no_mangle]
+pub extern "C" fn shr_format(
+    n: usize,
+    p: usize,
+    s: usize,
+    w: usize,
+    e: usize,
+    limit: usize,
+    bytes: &mut [u8],
+    marks: &mut [u8],
+    counts: &mut [u32],
+    fuse: &mut u64,
+) -> i64
+    ensures { λ r. ⌜ Promise
+        (formatting (geometry n p s w e limit)
+        (lent (recorder [] [] (flash (now (bytes .entry)) (now (marks .entry)) (now (counts .entry)) (now (fuse .entry)))) [] []))
+        (lent (recorder [] [] (flash (now (bytes .exit)) (now (marks .exit)) (now (counts .exit)) (now (fuse .exit)))) [] []) r ⌝ }
+{
+    let geo = Geometry {
+        n,
+        p,
+        s,
+        w,
+        e,
+        limit,
+    };
+    ftl::format(geo, bytes, marks, counts, fuse)
+}
+
+// Tables emptied.
+#[no_mangle]
+pub extern "C" fn shr_open(
+    n: usize,
+    p: usize,
+    s: usize,
+    w: usize,
+    e: usize,
+    limit: usize,
+    tab: &mut [u32],
+    used: &mut [u8],
+) -> i64
+    ensures { λ r. ⌜ Promise
+        (opening (geometry n p s w e limit)
+        (lent (recorder (now (tab .entry)) (now (used .entry)) noFlash) [] []))
+        (lent (recorder (now (tab .exit)) (now (used .exit)) noFlash) [] []) r ⌝ }
+{
+    let geo = Geometry {
+        n,
+        p,
+        s,
+        w,
+        e,
+        limit,
+    };
+    ftl::open(geo, tab, used)
+}
+
+// Bytes at a sector, into the front of out.
+#[no_mangle]
+pub extern "C" fn shr_read(
+    n: usize,
+    p: usize,
+    s: usize,
+    w: usize,
+    e: usize,
+    limit: usize,
+    sector: usize,
+    length: usize,
+    tab: &[u32],
+    used: &[u8],
+    bytes: &[u8],
+    out: &mut [u8],
+    seen: &mut [u8],
+) -> i64
+    ensures { λ r. ⌜ Promise
+        (read (geometry n p s w e limit) sector length
+        (lent (recorder (now (tab .entry)) (now (used .entry)) (flash (now (bytes .entry)) [] [] 0)) (now (out .entry)) (now (seen .entry) ∷ [])))
+        (lent (recorder (now (tab .entry)) (now (used .entry)) (flash (now (bytes .entry)) [] [] 0)) (now (out .exit)) (now (seen .exit) ∷ [])) r ⌝ }
+{
+    let geo = Geometry {
+        n,
+        p,
+        s,
+        w,
+        e,
+        limit,
+    };
+    ftl::read(geo, sector, length, tab, used, bytes, out, seen)
+}
+
+// Bytes at a sector, within one page.
+#[no_mangle]
+pub extern "C" fn shr_write(
+    n: usize,
+    p: usize,
+    s: usize,
+    w: usize,
+    e: usize,
+    limit: usize,
+    sector: usize,
+    len: usize,
+    xs: &[u8],
+    bad: &[u8],
+    tab: &mut [u32],
+    used: &mut [u8],
+    bytes: &mut [u8],
+    marks: &mut [u8],
+    counts: &[u32],
+    fuse: &mut u64,
+    page: &mut [u8],
+    seen: &mut [u8],
+) -> i64
+    ensures { λ r. ⌜ Promise
+        (write (geometry n p s w e limit) (now (bad .entry)) sector len (now (xs .entry))
+        (lent (recorder (now (tab .entry)) (now (used .entry)) (flash (now (bytes .entry)) (now (marks .entry)) (now (counts .entry)) (now (fuse .entry)))) [] (now (page .entry) ∷ now (seen .entry) ∷ [])))
+        (lent (recorder (now (tab .exit)) (now (used .exit)) (flash (now (bytes .exit)) (now (marks .exit)) (now (counts .entry)) (now (fuse .exit)))) [] (now (page .exit) ∷ now (seen .exit) ∷ [])) r ⌝ }
+{
+    let geo = Geometry {
+        n,
+        p,
+        s,
+        w,
+        e,
+        limit,
+    };
+    ftl::write(
+        geo,
+        sector,
+        len,
+        xs,
+        bad,
+        tab,
+        used,
+        bytes,
+        marks,
+        counts,
+        fuse,
+        page,
+        seen,
+    )
+}
+
+// One collection.
+#[no_mangle]
+pub extern "C" fn shr_collect(
+    n: usize,
+    p: usize,
+    s: usize,
+    w: usize,
+    e: usize,
+    limit: usize,
+    bad: &[u8],
+    tab: &mut [u32],
+    used: &mut [u8],
+    bytes: &mut [u8],
+    marks: &mut [u8],
+    counts: &mut [u32],
+    fuse: &mut u64,
+    page: &mut [u8],
+    seen: &mut [u8],
+    order: &mut [u32],
+) -> i64
+    ensures { λ r. ⌜ Promise
+        (collection (geometry n p s w e limit) (now (bad .entry))
+        (lent (recorder (now (tab .entry)) (now (used .entry)) (flash (now (bytes .entry)) (now (marks .entry)) (now (counts .entry)) (now (fuse .entry)))) [] (now (page .entry) ∷ now (seen .entry) ∷ now (order .entry) ∷ [])))
+        (lent (recorder (now (tab .exit)) (now (used .exit)) (flash (now (bytes .exit)) (now (marks .exit)) (now (counts .exit)) (now (fuse .exit)))) [] (now (page .exit) ∷ now (seen .exit) ∷ now (order .exit) ∷ [])) r ⌝ }
+{
+    let geo = Geometry {
+        n,
+        p,
+        s,
+        w,
+        e,
+        limit,
+    };
+    ftl::collect(
+        geo,
+        bad,
+        tab,
+        used,
+        bytes,
+        marks,
+        counts,
+        fuse,
+        page,
+        seen,
+        order,
+    )
+}
+
+// Collections from the list, at most m of them counted.
+#[no_mangle]
+pub extern "C" fn shr_collect_list(
+    n: usize,
+    p: usize,
+    s: usize,
+    w: usize,
+    e: usize,
+    limit: usize,
+    m: usize,
+    bad: &[u8],
+    tab: &mut [u32],
+    used: &mut [u8],
+    bytes: &mut [u8],
+    marks: &mut [u8],
+    counts: &mut [u32],
+    fuse: &mut u64,
+    page: &mut [u8],
+    seen: &mut [u8],
+    order: &mut [u32],
+) -> i64
+    ensures { λ r. ⌜ Promise
+        (listCollection (geometry n p s w e limit) (now (bad .entry)) m
+        (lent (recorder (now (tab .entry)) (now (used .entry)) (flash (now (bytes .entry)) (now (marks .entry)) (now (counts .entry)) (now (fuse .entry)))) [] (now (page .entry) ∷ now (seen .entry) ∷ now (order .entry) ∷ [])))
+        (lent (recorder (now (tab .exit)) (now (used .exit)) (flash (now (bytes .exit)) (now (marks .exit)) (now (counts .exit)) (now (fuse .exit)))) [] (now (page .exit) ∷ now (seen .exit) ∷ now (order .exit) ∷ [])) r ⌝ }
+{
+    let geo = Geometry {
+        n,
+        p,
+        s,
+        w,
+        e,
+        limit,
+    };
+    ftl::collect_list(
+        geo,
+        m,
+        bad,
+        tab,
+        used,
+        bytes,
+        marks,
+        counts,
+        fuse,
+        page,
+        seen,
+        order,
+    )
+}
+
+// Collections from the list, unless more pages are free than the threshold.
+#[no_mangle]
+pub extern "C" fn shr_collect_threshold(
+    n: usize,
+    p: usize,
+    s: usize,
+    w: usize,
+    e: usize,
+    limit: usize,
+    threshold: u64,
+    m: usize,
+    bad: &[u8],
+    tab: &mut [u32],
+    used: &mut [u8],
+    bytes: &mut [u8],
+    marks: &mut [u8],
+    counts: &mut [u32],
+    fuse: &mut u64,
+    page: &mut [u8],
+    seen: &mut [u8],
+    order: &mut [u32],
+) -> i64
+    ensures { λ r. ⌜ Promise
+        (thresholdCollection (geometry n p s w e limit) (now (bad .entry)) threshold m
+        (lent (recorder (now (tab .entry)) (now (used .entry)) (flash (now (bytes .entry)) (now (marks .entry)) (now (counts .entry)) (now (fuse .entry)))) [] (now (page .entry) ∷ now (seen .entry) ∷ now (order .entry) ∷ [])))
+        (lent (recorder (now (tab .exit)) (now (used .exit)) (flash (now (bytes .exit)) (now (marks .exit)) (now (counts .exit)) (now (fuse .exit)))) [] (now (page .exit) ∷ now (seen .exit) ∷ now (order .exit) ∷ [])) r ⌝ }
+{
+    let geo = Geometry {
+        n,
+        p,
+        s,
+        w,
+        e,
+        limit,
+    };
+    ftl::collect_threshold(
+        geo,
+        threshold,
+        m,
+        bad,
+        tab,
+        used,
+        bytes,
+        marks,
+        counts,
+        fuse,
+        page,
+        seen,
+        order,
+    )
+}
+
+// The checkpoint, into the front of the buffer.
+#[no_mangle]
+pub extern "C" fn shr_encode(
+    n: usize,
+    p: usize,
+    s: usize,
+    w: usize,
+    e: usize,
+    limit: usize,
+    tab: &[u32],
+    used: &[u8],
+    buffer: &mut [u8],
+    seen: &mut [u8],
+) -> i64
+    ensures { λ r. ⌜ Promise
+        (encoding (geometry n p s w e limit)
+        (lent (recorder (now (tab .entry)) (now (used .entry)) noFlash) (now (buffer .entry)) (now (seen .entry) ∷ [])))
+        (lent (recorder (now (tab .entry)) (now (used .entry)) noFlash) (now (buffer .exit)) (now (seen .exit) ∷ [])) r ⌝ }
+{
+    let geo = Geometry {
+        n,
+        p,
+        s,
+        w,
+        e,
+        limit,
+    };
+    ftl::encode(geo, tab, used, buffer, seen)
+}
+
+// The tables of a checkpoint.
+#[no_mangle]
+pub extern "C" fn shr_restore(
+    n: usize,
+    p: usize,
+    s: usize,
+    w: usize,
+    e: usize,
+    limit: usize,
+    file: &[u8],
+    tab: &mut [u32],
+    used: &mut [u8],
+    taken: &mut [u8],
+) -> i64
+    ensures { λ r. ⌜ Promise
+        (restoring (geometry n p s w e limit) (now (file .entry))
+        (lent (recorder (now (tab .entry)) (now (used .entry)) noFlash) [] (now (taken .entry) ∷ [])))
+        (lent (recorder (now (tab .exit)) (now (used .exit)) noFlash) [] (now (taken .exit) ∷ [])) r ⌝ }
+{
+    let geo = Geometry {
+        n,
+        p,
+        s,
+        w,
+        e,
+        limit,
+    };
+    ftl::restore(geo, file, tab, used, taken)
+}
+
+// What a caller lends, by size.
+pub enum Size {
+    TabWords,
+    UsedBytes,
+    FlashBytes,
+    MarkBytes,
+    CountWords,
+    BadBytes,
+    PageBytes,
+    SeenBytes,
+    OrderWords,
+    TakenBytes,
+    CheckpointBytes,
+}
+
+fn size_of(geo: Geometry, what: Size) -> usize
+    requires { ⌜ Good geo ⌝ }
+    ensures { λ r. ⌜ r ≡ sizeOf geo what ⌝ }
+{
+    let pages = geo.n * geo.p;
+    match what {
+        Size::TabWords => geo.e + geo.n * 5 + 2 + pages,
+        Size::UsedBytes => pages,
+        Size::FlashBytes => pages * geo.s,
+        Size::MarkBytes => pages,
+        Size::CountWords => geo.n,
+        Size::BadBytes => geo.n,
+        Size::PageBytes => geo.s,
+        Size::SeenBytes => geo.n + geo.p,
+        Size::OrderWords => geo.n,
+        Size::TakenBytes => pages,
+        Size::CheckpointBytes => checkpoint::file_size(geo),
+    }
+}
+
+// 0 for a geometry that is refused.
+fn sized(geo: Geometry, what: Size) -> usize
+    ensures { λ r. ⌜ r ≡ sized geo what ⌝ }
+{
+    if !sound::good(geo) {
+        return 0;
+    }
+    size_of(geo, what)
+}
+
+#[no_mangle]
+pub extern "C" fn shr_tab_words(
+    n: usize,
+    p: usize,
+    s: usize,
+    w: usize,
+    e: usize,
+    limit: usize,
+) -> usize
+    ensures { λ r. ⌜ r ≡ sized (geometry n p s w e limit) Size.TabWords ⌝ }
+{
+    let geo = Geometry {
+        n,
+        p,
+        s,
+        w,
+        e,
+        limit,
+    };
+    sized(geo, Size::TabWords)
+}
+
+#[no_mangle]
+pub extern "C" fn shr_used_bytes(
+    n: usize,
+    p: usize,
+    s: usize,
+    w: usize,
+    e: usize,
+    limit: usize,
+) -> usize
+    ensures { λ r. ⌜ r ≡ sized (geometry n p s w e limit) Size.UsedBytes ⌝ }
+{
+    let geo = Geometry {
+        n,
+        p,
+        s,
+        w,
+        e,
+        limit,
+    };
+    sized(geo, Size::UsedBytes)
+}
+
+#[no_mangle]
+pub extern "C" fn shr_flash_bytes(
+    n: usize,
+    p: usize,
+    s: usize,
+    w: usize,
+    e: usize,
+    limit: usize,
+) -> usize
+    ensures { λ r. ⌜ r ≡ sized (geometry n p s w e limit) Size.FlashBytes ⌝ }
+{
+    let geo = Geometry {
+        n,
+        p,
+        s,
+        w,
+        e,
+        limit,
+    };
+    sized(geo, Size::FlashBytes)
+}
+
+#[no_mangle]
+pub extern "C" fn shr_mark_bytes(
+    n: usize,
+    p: usize,
+    s: usize,
+    w: usize,
+    e: usize,
+    limit: usize,
+) -> usize
+    ensures { λ r. ⌜ r ≡ sized (geometry n p s w e limit) Size.MarkBytes ⌝ }
+{
+    let geo = Geometry {
+        n,
+        p,
+        s,
+        w,
+        e,
+        limit,
+    };
+    sized(geo, Size::MarkBytes)
+}
+
+#[no_mangle]
+pub extern "C" fn shr_count_words(
+    n: usize,
+    p: usize,
+    s: usize,
+    w: usize,
+    e: usize,
+    limit: usize,
+) -> usize
+    ensures { λ r. ⌜ r ≡ sized (geometry n p s w e limit) Size.CountWords ⌝ }
+{
+    let geo = Geometry {
+        n,
+        p,
+        s,
+        w,
+        e,
+        limit,
+    };
+    sized(geo, Size::CountWords)
+}
+
+#[no_mangle]
+pub extern "C" fn shr_bad_bytes(
+    n: usize,
+    p: usize,
+    s: usize,
+    w: usize,
+    e: usize,
+    limit: usize,
+) -> usize
+    ensures { λ r. ⌜ r ≡ sized (geometry n p s w e limit) Size.BadBytes ⌝ }
+{
+    let geo = Geometry {
+        n,
+        p,
+        s,
+        w,
+        e,
+        limit,
+    };
+    sized(geo, Size::BadBytes)
+}
+
+#[no_mangle]
+pub extern "C" fn shr_page_bytes(
+    n: usize,
+    p: usize,
+    s: usize,
+    w: usize,
+    e: usize,
+    limit: usize,
+) -> usize
+    ensures { λ r. ⌜ r ≡ sized (geometry n p s w e limit) Size.PageBytes ⌝ }
+{
+    let geo = Geometry {
+        n,
+        p,
+        s,
+        w,
+        e,
+        limit,
+    };
+    sized(geo, Size::PageBytes)
+}
+
+#[no_mangle]
+pub extern "C" fn shr_seen_bytes(
+    n: usize,
+    p: usize,
+    s: usize,
+    w: usize,
+    e: usize,
+    limit: usize,
+) -> usize
+    ensures { λ r. ⌜ r ≡ sized (geometry n p s w e limit) Size.SeenBytes ⌝ }
+{
+    let geo = Geometry {
+        n,
+        p,
+        s,
+        w,
+        e,
+        limit,
+    };
+    sized(geo, Size::SeenBytes)
+}
+
+#[no_mangle]
+pub extern "C" fn shr_order_words(
+    n: usize,
+    p: usize,
+    s: usize,
+    w: usize,
+    e: usize,
+    limit: usize,
+) -> usize
+    ensures { λ r. ⌜ r ≡ sized (geometry n p s w e limit) Size.OrderWords ⌝ }
+{
+    let geo = Geometry {
+        n,
+        p,
+        s,
+        w,
+        e,
+        limit,
+    };
+    sized(geo, Size::OrderWords)
+}
+
+#[no_mangle]
+pub extern "C" fn shr_taken_bytes(
+    n: usize,
+    p: usize,
+    s: usize,
+    w: usize,
+    e: usize,
+    limit: usize,
+) -> usize
+    ensures { λ r. ⌜ r ≡ sized (geometry n p s w e limit) Size.TakenBytes ⌝ }
+{
+    let geo = Geometry {
+        n,
+        p,
+        s,
+        w,
+        e,
+        limit,
+    };
+    sized(geo, Size::TakenBytes)
+}
+
+#[no_mangle]
+pub extern "C" fn shr_checkpoint_bytes(
+    n: usize,
+    p: usize,
+    s: usize,
+    w: usize,
+    e: usize,
+    limit: usize,
+) -> usize
+    ensures { λ r. ⌜ r ≡ sized (geometry n p s w e limit) Size.CheckpointBytes ⌝ }
+{
+    let geo = Geometry {
+        n,
+        p,
+        s,
+        w,
+        e,
+        limit,
+    };
+    sized(geo, Size::CheckpointBytes)
+}
+
+// The CRC-32 of IEEE 802.3.
+#[no_mangle]
+pub extern "C" fn shr_crc32(xs: &[u8]) -> u32
+    ensures { λ r. ⌜ r ≡ crc32 (now (xs .entry)) ⌝ }
+{
+    crc32::checksum(xs)
+}
