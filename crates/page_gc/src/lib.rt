@@ -78,7 +78,7 @@ fn drain(
     Answer::Moved(0)
 }
 
-// "reset the record, clear the flag": free and valid count, use marks and list of segment v.
+// "reset the record, clear the flag": free and valid count, as a record lent alone; use marks and list of segment v.
 fn reset_segment(geo: Geometry, v: usize, tab: &mut [u32], used: &mut [u8])
     requires { ⌜ Held geo (now tab) (now used) ⌝ }
     requires { ⌜ v < geo .n ⌝ }
@@ -94,9 +94,10 @@ fn reset_segment(geo: Geometry, v: usize, tab: &mut [u32], used: &mut [u8])
     let z = a + p;
     queue::clear(&mut tab[a..z]);
     let f = e + v;
-    tab[f] = p as u32;
     let c = e + n + v;
-    tab[c] = 0;
+    let s = segment::reset_record(tab[f], tab[c], p as u32);
+    tab[f] = s.free;
+    tab[c] = s.valid;
     let d = e + n * 2 + v;
     tab[d] = 0;
     let g = e + n * 4 + v;

@@ -1,4 +1,4 @@
--- `reset_segment` meets its contract: two rows wiped, four words set.
+-- `reset_segment` meets its contract: two rows wiped, four words set, two of them from the record that `segment` resets.
 use borrow.Rule.Slice.PartMut.{putMid}
 use mathlib.Core.Path.{_≡_, refl, sym, ap, _∙_}
 use mathlib.Core.List.{List}
@@ -10,6 +10,8 @@ use Rattle.model.specs.Tables.{oFree, oValid, oLens, oFlags, oLists, tabWords, 
 use Rattle.model.proofs.Slots.{part-fits}
 use Rattle.model.proofs.Regions.{onPart, part-back, part-length, back-length}
 use Rattle.model.proofs.Held.{slots}
+use Rattle.segment.specs.declared.Segment.{Segment}
+use Rattle.segment.specs.Reset.{reset}
 use Rattle.page_gc.proofs.Wiping.{reset-words}
 use borrow.Author.Needs.{needs}
 use Rattle.page_gc.proofs.reset_segment.Statement.{statement}
@@ -18,6 +20,7 @@ use Rattle.page_gc.proofs.reset_segment.Reads as reads
 use Rattle.page_gc.proofs.reset_segment.Lts as lts
 use Rattle.device.proofs.fill.Reads as fill-reads
 use Rattle.queue.proofs.clear.Reads as clear-reads
+use Rattle.segment.proofs.reset_record.Reads as reset-record-reads
 
 -- places
 abbrev at-start : tie.After-fill → tie.Start
@@ -32,8 +35,8 @@ start-at c = c .before .before
 abbrev fill-at : tie.After-slice-known3 → tie.After-fill
 fill-at c = c .before .before
 
-abbrev clear-at : tie.After-slice-known4 → tie.After-clear
-clear-at c = c .before .before
+abbrev clear-at : tie.After-reset-record → tie.After-clear
+clear-at c = c .before .before .before .before .before
 
 -- segment v's row of the lists, and its end
 abbrev row : tie.Start → ℕ
@@ -112,9 +115,12 @@ returns c =
     let G = a .geo in
     let lists : k .clear .last .0 ≡ zeros (G .p) = k .clear .ensures ∙ ap (λ (x : ℕ). zeros x) (part-length (a .tab .now) (row s) (G .p) (row-ends s)) in
     let marks : m .fill .last .0 ≡ zeros (G .p) = m .fill .ensures ∙ ap (λ (x : ℕ). zeros x) (part-length (a .used .now) (a .v * G .p) (G .p) (marks-end s)) in
-    ap (λ (x : List ℕ). view G (set (set (set (set x (oFree G + a .v) (G .p)) (oValid G + a .v) 0) (oLens G + a .v) 0) (oFlags G + a .v) 0) (putMid (a .v * G .p) (a .v * G .p + G .p - a .v * G .p) (a .used .now) (m .fill .last .0)))
-    (part-back (a .tab .now) (k .clear .last .0) (row s) (G .p) (λ _. zeros (G .p)) lists)
-    ∙ ap (λ (x : List ℕ). view G (set (set (set (set (onPart (row s) (G .p) (λ _. zeros (G .p)) (a .tab .now)) (oFree G + a .v) (G .p)) (oValid G + a .v) 0) (oLens G + a .v) 0) (oFlags G + a .v) 0) x)
+    let words : List ℕ → Segment → List ℕ = λ w r. set (set (set (set w (oFree G + a .v) (r .free)) (oValid G + a .v) (r .valid)) (oLens G + a .v) 0) (oFlags G + a .v) 0 in
+    let wiped : List ℕ = putMid (row s) (row s + G .p - row s) (a .tab .now) (k .clear .last .0) in
+    let marks-now : List ℕ = putMid (a .v * G .p) (a .v * G .p + G .p - a .v * G .p) (a .used .now) (m .fill .last .0) in
+    ap (λ (r : Segment). view G (words wiped r) marks-now) (c .reset-record .ensures)
+    ∙ ap (λ (w : List ℕ). view G (words w (reset (G .p))) marks-now) (part-back (a .tab .now) (k .clear .last .0) (row s) (G .p) (λ _. zeros (G .p)) lists)
+    ∙ ap (λ (u : List ℕ). view G (words (onPart (row s) (G .p) (λ _. zeros (G .p)) (a .tab .now)) (reset (G .p))) u)
     (part-back (a .used .now) (m .fill .last .0) (a .v * G .p) (G .p) (λ _. zeros (G .p)) marks)
     ∙ reset-words G (a .tab .now) (a .used .now) (s .pre .0 .tables .words-size) (a .v) (s .pre .1)
 
@@ -150,20 +156,35 @@ clear-requires c κs = search needs
 add-f : tie.Need-add-f
 add-f c = search needs
 
-cast-tab : tie.Need-cast-tab
-cast-tab c = search needs
+add-c : tie.Need-add-c
+add-c c = search needs
+
+add-c-2 : tie.Need-add-c-2
+add-c-2 c = search needs
+
+mul-reset-record : tie.Need-mul-reset-record
+mul-reset-record c = search needs
+
+slice-read-reset-record : tie.Need-slice-read-reset-record
+slice-read-reset-record c = search needs
+
+mul-reset-record-2 : tie.Need-mul-reset-record-2
+mul-reset-record-2 c = search needs
+
+slice-read-reset-record-2 : tie.Need-slice-read-reset-record-2
+slice-read-reset-record-2 c = search needs
+
+cast-reset-record : tie.Need-cast-reset-record
+cast-reset-record c = search needs
+
+reset-record-requires : tie.Need-reset-record-requires
+reset-record-requires c κs = search needs
 
 mul-tab : tie.Need-mul-tab
 mul-tab c = search needs
 
 slice-write-tab : tie.Need-slice-write-tab
 slice-write-tab c = search needs
-
-add-c : tie.Need-add-c
-add-c c = search needs
-
-add-c-2 : tie.Need-add-c-2
-add-c-2 c = search needs
 
 mul-tab-2 : tie.Need-mul-tab-2
 mul-tab-2 c = search needs
@@ -217,11 +238,16 @@ reset-segment-spec =
     part-clear-end
     clear-requires
     add-f
-    cast-tab
-    mul-tab
-    slice-write-tab
     add-c
     add-c-2
+    mul-reset-record
+    slice-read-reset-record
+    mul-reset-record-2
+    slice-read-reset-record-2
+    cast-reset-record
+    reset-record-requires
+    mul-tab
+    slice-write-tab
     mul-tab-2
     slice-write-tab-2
     mul-d
