@@ -1,0 +1,4 @@
+pub mod Digits
+pub mod Signed
+pub mod Laid
+pub mod Examples

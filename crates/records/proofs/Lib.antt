@@ -1,0 +1,4 @@
+pub mod Laws
+pub mod Head
+pub mod Places
+pub mod Taken
