@@ -1,0 +1,50 @@
+// The rules of 01 that the checks need, written from its sentences and apart from the library.
+#ifndef RULES_H
+#define RULES_H
+#include "lent.h"
+
+#define EMPTY UINT32_MAX
+#define ENDLESS UINT64_MAX
+#define NONE SIZE_MAX
+#define SHARED 9 // of unsound: mapped addresses do not differ
+
+enum { FORMAT, OPEN, READ, WRITE, COLLECT, COLLECT_LIST, COLLECT_THRESHOLD, ENCODE, RESTORE, ENTRIES };
+enum { NOT_LENT, READ_ONLY, LENT };
+
+struct geo { uint64_t n, p, s, w, e, limit; };
+
+struct call {
+    int entry;
+    struct geo geo;
+    uint64_t sector, length, m, threshold;
+    int64_t answer;
+};
+
+// The tables as they lie in the lent words.
+struct tables {
+    uint32_t *map, *free, *valid, *lens, *queue, *flags, *alloc, *queued, *lists;
+    uint8_t *used;
+};
+
+extern const uint8_t role[ENTRIES][SLICES];
+
+bool good(const struct geo *g);
+uint64_t right(const struct geo *g, int slice);
+uint64_t checkpoint_bytes(const struct geo *g);
+int wrong_size(const struct call *c);
+struct tables view(const struct geo *g, void *tab, uint8_t *used);
+struct tables before(const struct geo *g);
+struct tables after(const struct geo *g);
+int unsound(const struct geo *g, const struct tables *t);
+size_t page_of(const struct geo *g, uint32_t word);
+size_t find(const struct geo *g, const struct tables *t, const uint8_t *bad);
+uint64_t total_free(const struct geo *g, const struct tables *t);
+uint32_t word_at(const uint8_t *x);
+uint64_t long_at(const uint8_t *x);
+void put_word(uint8_t *x, uint32_t v);
+void put_long(uint8_t *x, uint64_t v);
+uint32_t crc32_of(const uint8_t *x, size_t len);
+uint32_t file_crc(const uint8_t *file, size_t len);
+int reason(const struct geo *g, const uint8_t *file, size_t len);
+
+#endif
