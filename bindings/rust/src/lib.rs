@@ -1,0 +1,284 @@
+//! Shillingreed, a proved flash translation layer core, from Rust.
+//!
+//! [`Ftl`] borrows all memory that the library is lent and keeps nothing of its own; with the feature `std` (the default) [`OwnedFtl`]
+//! owns it. Every call answers a count or a [`Refusal`]; what a refusal leaves behind is said in docs/USING.md.
+//!
+//! ```
+//! use shillingreed::{Geometry, OwnedFtl, Refusal};
+//!
+//! let geo = Geometry { n: 4, p: 8, s: 16, w: 3, e: 20, limit: 1000 };
+//! let mut unit = OwnedFtl::new(geo)?;
+//! unit.format()?;
+//! unit.open()?;
+//! unit.write(5, b"1.32")?;
+//! let file = unit.checkpoint()?;
+//! unit.restore(&file)?;
+//! let mut out = [0; 4];
+//! assert_eq!(unit.read(5, &mut out), Ok(4));
+//! assert_eq!(&out, b"1.32");
+//! assert_eq!(unit.read(16, &mut out), Err(Refusal::Unmapped));
+//! # Ok::<(), Refusal>(())
+//! ```
+#![cfg_attr(not(feature = "std"), no_std)]
+#![warn(missing_docs)]
+
+#[cfg(feature = "std")]
+mod owned;
+#[rustfmt::skip]
+mod raw;
+mod refusal;
+mod tables;
+
+#[cfg(feature = "std")]
+pub use owned::OwnedFtl;
+use refusal::{answer, restored};
+pub use refusal::{Reason, Refusal};
+pub use tables::View;
+
+/// A fuse without end.
+pub const ENDLESS: u64 = u64::MAX;
+
+/// The shape of a unit. Any numbers may be given; a call refuses wrong ones with [`Refusal::Wrong`].
+#[derive(Clone, Copy, Debug, PartialEq, Eq)]
+pub struct Geometry {
+    /// Segments, 1 to 65,535.
+    pub n: usize,
+    /// Pages in each, 1 to 1,024.
+    pub p: usize,
+    /// Bytes in each page, 1 to 16,384.
+    pub s: usize,
+    /// Address width, 0 to 16, with p at most 2^w.
+    pub w: usize,
+    /// Map entries (logical pages), 1 to n·p.
+    pub e: usize,
+    /// Erases that a segment bears, 0 to 2^32 - 1.
+    pub limit: usize,
+}
+
+/// The sizes of what a unit lends, in elements.
+#[derive(Clone, Copy, Debug, PartialEq, Eq)]
+#[allow(missing_docs)]
+pub struct Sizes {
+    pub tab: usize,
+    pub used: usize,
+    pub bytes: usize,
+    pub marks: usize,
+    pub counts: usize,
+    pub bad: usize,
+    pub page: usize,
+    pub seen: usize,
+    pub order: usize,
+    pub taken: usize,
+    pub checkpoint: usize,
+}
+
+macro_rules! size {
+    ($geo:expr, $call:ident) => {
+        // Six numbers in, a number out: nothing is lent.
+        unsafe { raw::$call($geo.n, $geo.p, $geo.s, $geo.w, $geo.e, $geo.limit) }
+    };
+}
+
+impl Geometry {
+    /// The lent sizes, or `Wrong`.
+    pub fn sizes(&self) -> Result<Sizes, Refusal> {
+        let tab = size!(self, shr_tab_words);
+        if tab == 0 {
+            return Err(Refusal::Wrong);
+        }
+        Ok(Sizes {
+            tab,
+            used: size!(self, shr_used_bytes),
+            bytes: size!(self, shr_flash_bytes),
+            marks: size!(self, shr_mark_bytes),
+            counts: size!(self, shr_count_words),
+            bad: size!(self, shr_bad_bytes),
+            page: size!(self, shr_page_bytes),
+            seen: size!(self, shr_seen_bytes),
+            order: size!(self, shr_order_words),
+            taken: size!(self, shr_taken_bytes),
+            checkpoint: size!(self, shr_checkpoint_bytes),
+        })
+    }
+}
+
+/// The CRC-32 of IEEE 802.3.
+pub fn crc32(xs: &[u8]) -> u32 {
+    // A slice's pointer and length.
+    unsafe { raw::shr_crc32(xs.as_ptr(), xs.len()) }
+}
+
+/// The mapping's tables: lost with the power, made again by [`Ftl::restore`].
+pub struct Tables<'a> {
+    /// Map, free, valid, list lengths, queue, flags, allocation segment, queue length, lists.
+    pub tab: &'a mut [u32],
+    /// Use marks.
+    pub used: &'a mut [u8],
+}
+
+/// The flash.
+pub struct Flash<'a> {
+    /// Every page's bytes.
+    pub bytes: &'a mut [u8],
+    /// Every page's programmed mark.
+    pub marks: &'a mut [u8],
+    /// Every segment's erase count.
+    pub counts: &'a mut [u32],
+    /// The device operations still done; [`ENDLESS`] without end.
+    pub fuse: &'a mut u64,
+}
+
+/// Scratch: zero before and after each call.
+pub struct Scratch<'a> {
+    /// s bytes.
+    pub page: &'a mut [u8],
+    /// n + p bytes.
+    pub seen: &'a mut [u8],
+    /// n words.
+    pub order: &'a mut [u32],
+    /// n·p bytes.
+    pub taken: &'a mut [u8],
+}
+
+/// A unit over borrowed memory. The parts may have any size and content: a wrong one gets a refusal.
+pub struct Ftl<'a> {
+    /// The shape.
+    pub geo: Geometry,
+    /// The tables.
+    pub tables: Tables<'a>,
+    /// The flash.
+    pub flash: Flash<'a>,
+    /// The bad list: a nonzero mark for a bad segment.
+    pub bad: &'a [u8],
+    /// Scratch.
+    pub scratch: Scratch<'a>,
+}
+
+// In every call below each lent part is a borrow of its own, so its pointer is not null and aligned, and no two overlap. That is all the
+// library cannot find out by itself.
+#[rustfmt::skip]
+impl Ftl<'_> {
+    /// Erases every segment from 0 up, as far as the fuse reaches, and sets its count to 0. Answers 0.
+    pub fn format(&mut self) -> Result<usize, Refusal> {
+        let (g, f) = (self.geo, &mut self.flash);
+        answer(unsafe {
+            raw::shr_format(
+                g.n, g.p, g.s, g.w, g.e, g.limit,
+                f.bytes.as_mut_ptr(), f.bytes.len(), f.marks.as_mut_ptr(), f.marks.len(),
+                f.counts.as_mut_ptr(), f.counts.len(), f.fuse,
+            )
+        })
+    }
+
+    /// Empties the tables: nothing mapped, every page free. Answers 0.
+    pub fn open(&mut self) -> Result<usize, Refusal> {
+        let (g, t) = (self.geo, &mut self.tables);
+        answer(unsafe {
+            raw::shr_open(
+                g.n, g.p, g.s, g.w, g.e, g.limit,
+                t.tab.as_mut_ptr(), t.tab.len(), t.used.as_mut_ptr(), t.used.len(),
+            )
+        })
+    }
+
+    /// Fills `out` from a sector, which is a byte position, inside one logical page. Answers its length.
+    pub fn read(&mut self, sector: usize, out: &mut [u8]) -> Result<usize, Refusal> {
+        let (g, t, f, c) = (self.geo, &self.tables, &self.flash, &mut self.scratch);
+        answer(unsafe {
+            raw::shr_read(
+                g.n, g.p, g.s, g.w, g.e, g.limit,
+                sector, out.len(),
+                t.tab.as_ptr(), t.tab.len(), t.used.as_ptr(), t.used.len(), f.bytes.as_ptr(), f.bytes.len(),
+                out.as_mut_ptr(), out.len(), c.seen.as_mut_ptr(), c.seen.len(),
+            )
+        })
+    }
+
+    /// Writes `data` at a sector, inside one logical page; the page's other bytes stay. Spends one page. Answers the length.
+    pub fn write(&mut self, sector: usize, data: &[u8]) -> Result<usize, Refusal> {
+        let (g, t, f, c) = (self.geo, &mut self.tables, &mut self.flash, &mut self.scratch);
+        answer(unsafe {
+            raw::shr_write(
+                g.n, g.p, g.s, g.w, g.e, g.limit,
+                sector, data.len(), data.as_ptr(), data.len(), self.bad.as_ptr(), self.bad.len(),
+                t.tab.as_mut_ptr(), t.tab.len(), t.used.as_mut_ptr(), t.used.len(),
+                f.bytes.as_mut_ptr(), f.bytes.len(), f.marks.as_mut_ptr(), f.marks.len(), f.counts.as_ptr(), f.counts.len(),
+                f.fuse, c.page.as_mut_ptr(), c.page.len(), c.seen.as_mut_ptr(), c.seen.len(),
+            )
+        })
+    }
+
+    /// One collection: the queued segment with the fewest valid pages is copied out and erased. Answers 0.
+    pub fn collect(&mut self) -> Result<usize, Refusal> {
+        let (g, t, f, c) = (self.geo, &mut self.tables, &mut self.flash, &mut self.scratch);
+        answer(unsafe {
+            raw::shr_collect(
+                g.n, g.p, g.s, g.w, g.e, g.limit,
+                self.bad.as_ptr(), self.bad.len(),
+                t.tab.as_mut_ptr(), t.tab.len(), t.used.as_mut_ptr(), t.used.len(),
+                f.bytes.as_mut_ptr(), f.bytes.len(), f.marks.as_mut_ptr(), f.marks.len(),
+                f.counts.as_mut_ptr(), f.counts.len(), f.fuse,
+                c.page.as_mut_ptr(), c.page.len(), c.seen.as_mut_ptr(), c.seen.len(), c.order.as_mut_ptr(), c.order.len(),
+            )
+        })
+    }
+
+    /// Collections until one is refused, the queue is empty, or m are counted. Answers the count, without the one that empties the queue.
+    pub fn collect_list(&mut self, m: usize) -> Result<usize, Refusal> {
+        let (g, t, f, c) = (self.geo, &mut self.tables, &mut self.flash, &mut self.scratch);
+        answer(unsafe {
+            raw::shr_collect_list(
+                g.n, g.p, g.s, g.w, g.e, g.limit, m,
+                self.bad.as_ptr(), self.bad.len(),
+                t.tab.as_mut_ptr(), t.tab.len(), t.used.as_mut_ptr(), t.used.len(),
+                f.bytes.as_mut_ptr(), f.bytes.len(), f.marks.as_mut_ptr(), f.marks.len(),
+                f.counts.as_mut_ptr(), f.counts.len(), f.fuse,
+                c.page.as_mut_ptr(), c.page.len(), c.seen.as_mut_ptr(), c.seen.len(), c.order.as_mut_ptr(), c.order.len(),
+            )
+        })
+    }
+
+    /// The same when the free pages of all segments are at most the threshold; above it nothing runs.
+    pub fn collect_threshold(&mut self, threshold: u64, m: usize) -> Result<usize, Refusal> {
+        let (g, t, f, c) = (self.geo, &mut self.tables, &mut self.flash, &mut self.scratch);
+        answer(unsafe {
+            raw::shr_collect_threshold(
+                g.n, g.p, g.s, g.w, g.e, g.limit, threshold, m,
+                self.bad.as_ptr(), self.bad.len(),
+                t.tab.as_mut_ptr(), t.tab.len(), t.used.as_mut_ptr(), t.used.len(),
+                f.bytes.as_mut_ptr(), f.bytes.len(), f.marks.as_mut_ptr(), f.marks.len(),
+                f.counts.as_mut_ptr(), f.counts.len(), f.fuse,
+                c.page.as_mut_ptr(), c.page.len(), c.seen.as_mut_ptr(), c.seen.len(), c.order.as_mut_ptr(), c.order.len(),
+            )
+        })
+    }
+
+    /// Writes the checkpoint of the tables into the buffer's front. Answers its length.
+    pub fn encode(&mut self, buffer: &mut [u8]) -> Result<usize, Refusal> {
+        let (g, t, c) = (self.geo, &self.tables, &mut self.scratch);
+        answer(unsafe {
+            raw::shr_encode(
+                g.n, g.p, g.s, g.w, g.e, g.limit,
+                t.tab.as_ptr(), t.tab.len(), t.used.as_ptr(), t.used.len(),
+                buffer.as_mut_ptr(), buffer.len(), c.seen.as_mut_ptr(), c.seen.len(),
+            )
+        })
+    }
+
+    /// Makes the tables of a checkpoint, whatever they held. Answers 0; a reason changes nothing.
+    pub fn restore(&mut self, file: &[u8]) -> Result<usize, Refusal> {
+        let (g, t, c) = (self.geo, &mut self.tables, &mut self.scratch);
+        restored(unsafe {
+            raw::shr_restore(
+                g.n, g.p, g.s, g.w, g.e, g.limit,
+                file.as_ptr(), file.len(), t.tab.as_mut_ptr(), t.tab.len(), t.used.as_mut_ptr(), t.used.len(),
+                c.taken.as_mut_ptr(), c.taken.len(),
+            )
+        })
+    }
+
+    /// A look into the tables, or `Wrong` where they do not have their size.
+    pub fn view(&self) -> Result<View<'_>, Refusal> {
+        View::new(self.geo, self.tables.tab)
+    }
+}
