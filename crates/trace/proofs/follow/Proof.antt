@@ -22,7 +22,6 @@ Inv-loop geo xs first bad tab₀ used₀ bytes₀ marks₀ counts₀ out₀ file
 abbrev μ-loop : tie.MeasureT-loop
 μ-loop geo xs first bad tab₀ used₀ bytes₀ marks₀ counts₀ out₀ file₀ line₀ fuse₀ at₀ stored₀ t20 tab used bytes marks counts out file line fuse at stored = length xs - at
 
--- src/main.rt:56:5
 -- places: the entry, the flash formatted, the tables opened; the loop; in a turn, its record done and told
 
 abbrev start-at-1 : tie.After-format Inv-loop μ-loop → tie.After-format-arg Inv-loop μ-loop
@@ -118,18 +117,6 @@ ended-at-1 c = c .before .before .before .before
 abbrev ended-at : tie.After-slice-known22 Inv-loop μ-loop → tie.At-loop Inv-loop μ-loop
 ended-at c = ended-at-1 c .before .before
 
-format-requires : tie.Need-format-requires Inv-loop μ-loop
-format-requires c κs = search needs
-
--- src/main.rt:57:5
-open-requires : tie.Need-open-requires Inv-loop μ-loop
-open-requires c κs = search needs
-
--- src/main.rt:60:5
-loop-holds : tie.Need-loop-holds Inv-loop μ-loop
-loop-holds c = search needs
-
--- src/main.rt:61:13
 -- the turn's place and line
 record-told
     : (e : tie.After-t Inv-loop μ-loop)
@@ -145,124 +132,106 @@ do-record-requires c κs =
     let s = start-at (formatted-at o) in
     (small (s .args .geo) (s .pre .0), (omega (arith, o .loop .inv, s .pre .1), omega (arith, o .loop .inv, s .pre .1)))
 
--- src/main.rt:77:24
-enum-known-t : tie.Need-enum-known-t Inv-loop μ-loop
-enum-known-t c = search needs
-
--- src/main.rt:78:17
-enum-told : tie.Need-enum-told Inv-loop μ-loop
-enum-told c = search needs
-
--- src/main.rt:78:17
-slice-aggregate-say : tie.Need-slice-aggregate-say Inv-loop μ-loop
-slice-aggregate-say c = search needs
-
--- src/main.rt:78:13
-say-requires : tie.Need-say-requires Inv-loop μ-loop
-say-requires c κs = search needs
-
--- src/main.rt:79:13
-same-length : tie.Need-same-length Inv-loop μ-loop
-same-length c = search needs
-
--- src/main.rt:79:13
-same-length-2 : tie.Need-same-length-2 Inv-loop μ-loop
-same-length-2 c = search needs
-
--- src/main.rt:79:13
 same-length-3 : tie.Need-same-length-3 Inv-loop μ-loop
 same-length-3 c = omega (arith, short-at c .do-record .kept, turn-at (short-at c) .loop .inv, formatted-at (turn-at (short-at c)) .format .kept)
 
--- src/main.rt:79:13
 same-length-4 : tie.Need-same-length-4 Inv-loop μ-loop
 same-length-4 c = omega (arith, short-at c .do-record .kept, turn-at (short-at c) .loop .inv, formatted-at (turn-at (short-at c)) .format .kept)
 
--- src/main.rt:79:13
 same-length-5 : tie.Need-same-length-5 Inv-loop μ-loop
 same-length-5 c = omega (arith, short-at c .do-record .kept, turn-at (short-at c) .loop .inv, formatted-at (turn-at (short-at c)) .format .kept)
 
--- src/main.rt:79:13
-same-length-6 : tie.Need-same-length-6 Inv-loop μ-loop
-same-length-6 c = search needs
-
--- src/main.rt:79:13
-same-length-7 : tie.Need-same-length-7 Inv-loop μ-loop
-same-length-7 c = search needs
-
--- src/main.rt:79:13
-same-length-8 : tie.Need-same-length-8 Inv-loop μ-loop
-same-length-8 c = search needs
-
--- src/main.rt:79:13
-returns : tie.Need-returns Inv-loop μ-loop
-returns c = search needs
-
--- src/main.rt:81:13
-sub-say : tie.Need-sub-say Inv-loop μ-loop
-sub-say c = search needs
-
--- src/main.rt:81:13
-part-say-start : tie.Need-part-say-start Inv-loop μ-loop
-part-say-start c = search needs
-
--- src/main.rt:81:13
 part-say-end : tie.Need-part-say-end Inv-loop μ-loop
 part-say-end c =
     let e = told-at c in
     record-told e .1
 
--- src/main.rt:81:9
-say-requires-2 : tie.Need-say-requires-2 Inv-loop μ-loop
-say-requires-2 c κs = search needs
-
--- src/main.rt:60:5
 loop-less : tie.Need-loop-less Inv-loop μ-loop
 loop-less c = omega (arith, record-told (left-at c) .0)
 
--- src/main.rt:60:5
-loop-again : tie.Need-loop-again Inv-loop μ-loop
-loop-again c = search needs
-
--- src/main.rt:85:5
 print-map-requires : tie.Need-print-map-requires Inv-loop μ-loop
 print-map-requires c κs =
     let o = last-at c in
     let s = start-at (formatted-at o) in
     (good (s .args .geo) (s .pre .0), (omega (arith, o .loop .inv, s .pre .1, opened-at o .open .kept), omega (arith, o .loop .inv, s .pre .1)))
 
--- src/main.rt:36:1
+-- ---- what the search finds, and the pieces put together
+
+format-requires : tie.Need-format-requires Inv-loop μ-loop
+format-requires c κs = search needs
+
+open-requires : tie.Need-open-requires Inv-loop μ-loop
+open-requires c κs = search needs
+
+loop-holds : tie.Need-loop-holds Inv-loop μ-loop
+loop-holds c = search needs
+
+enum-known-t : tie.Need-enum-known-t Inv-loop μ-loop
+enum-known-t c = search needs
+
+enum-told : tie.Need-enum-told Inv-loop μ-loop
+enum-told c = search needs
+
+slice-aggregate-say : tie.Need-slice-aggregate-say Inv-loop μ-loop
+slice-aggregate-say c = search needs
+
+say-requires : tie.Need-say-requires Inv-loop μ-loop
+say-requires c κs = search needs
+
+same-length : tie.Need-same-length Inv-loop μ-loop
+same-length c = search needs
+
+same-length-2 : tie.Need-same-length-2 Inv-loop μ-loop
+same-length-2 c = search needs
+
+same-length-6 : tie.Need-same-length-6 Inv-loop μ-loop
+same-length-6 c = search needs
+
+same-length-7 : tie.Need-same-length-7 Inv-loop μ-loop
+same-length-7 c = search needs
+
+same-length-8 : tie.Need-same-length-8 Inv-loop μ-loop
+same-length-8 c = search needs
+
+returns : tie.Need-returns Inv-loop μ-loop
+returns c = search needs
+
+sub-say : tie.Need-sub-say Inv-loop μ-loop
+sub-say c = search needs
+
+part-say-start : tie.Need-part-say-start Inv-loop μ-loop
+part-say-start c = search needs
+
+say-requires-2 : tie.Need-say-requires-2 Inv-loop μ-loop
+say-requires-2 c κs = search needs
+
+loop-again : tie.Need-loop-again Inv-loop μ-loop
+loop-again c = search needs
+
 same-length-9 : tie.Need-same-length-9 Inv-loop μ-loop
 same-length-9 c = search needs
 
--- src/main.rt:36:1
 same-length-10 : tie.Need-same-length-10 Inv-loop μ-loop
 same-length-10 c = search needs
 
--- src/main.rt:36:1
 same-length-11 : tie.Need-same-length-11 Inv-loop μ-loop
 same-length-11 c = search needs
 
--- src/main.rt:36:1
 same-length-12 : tie.Need-same-length-12 Inv-loop μ-loop
 same-length-12 c = search needs
 
--- src/main.rt:36:1
 same-length-13 : tie.Need-same-length-13 Inv-loop μ-loop
 same-length-13 c = search needs
 
--- src/main.rt:36:1
 same-length-14 : tie.Need-same-length-14 Inv-loop μ-loop
 same-length-14 c = search needs
 
--- src/main.rt:36:1
 same-length-15 : tie.Need-same-length-15 Inv-loop μ-loop
 same-length-15 c = search needs
 
--- src/main.rt:36:1
 same-length-16 : tie.Need-same-length-16 Inv-loop μ-loop
 same-length-16 c = search needs
 
--- src/main.rt:36:1
 returns-2 : tie.Need-returns-2 Inv-loop μ-loop
 returns-2 c = search needs
 

@@ -18,69 +18,55 @@ Inv-loop geo tab line₀ l₀ t8 line l = length line ≡ length line₀
 abbrev μ-loop : tie.MeasureT-loop
 μ-loop geo tab line₀ l₀ t8 line l = geo .e - l
 
--- src/main.rt:24:9
-slice-aggregate-say : tie.Need-slice-aggregate-say Inv-loop μ-loop
-slice-aggregate-say c = search needs
-
--- src/main.rt:24:5
-say-requires : tie.Need-say-requires Inv-loop μ-loop
-say-requires c κs = search needs
-
--- src/main.rt:26:5
-loop-holds : tie.Need-loop-holds Inv-loop μ-loop
-loop-holds c = search needs
-
--- src/main.rt:27:13
-word-of-requires : tie.Need-word-of-requires Inv-loop μ-loop
-word-of-requires c κs = search needs
-
--- src/main.rt:28:13
-put-entry-requires : tie.Need-put-entry-requires Inv-loop μ-loop
-put-entry-requires c κs = search needs
-
--- src/main.rt:29:13
-sub-say : tie.Need-sub-say Inv-loop μ-loop
-sub-say c = search needs
-
--- src/main.rt:29:13
-part-say-start : tie.Need-part-say-start Inv-loop μ-loop
-part-say-start c = search needs
-
--- src/main.rt:29:13
 part-say-end : tie.Need-part-say-end Inv-loop μ-loop
 part-say-end c =
     let o = c .before .before .before .put-entry in
     laid-fits _ _ (o .ensures .0) (o .ensures .1)
 
--- src/main.rt:29:9
+-- ---- what the search finds, and the pieces put together
+
+slice-aggregate-say : tie.Need-slice-aggregate-say Inv-loop μ-loop
+slice-aggregate-say c = search needs
+
+say-requires : tie.Need-say-requires Inv-loop μ-loop
+say-requires c κs = search needs
+
+loop-holds : tie.Need-loop-holds Inv-loop μ-loop
+loop-holds c = search needs
+
+word-of-requires : tie.Need-word-of-requires Inv-loop μ-loop
+word-of-requires c κs = search needs
+
+put-entry-requires : tie.Need-put-entry-requires Inv-loop μ-loop
+put-entry-requires c κs = search needs
+
+sub-say : tie.Need-sub-say Inv-loop μ-loop
+sub-say c = search needs
+
+part-say-start : tie.Need-part-say-start Inv-loop μ-loop
+part-say-start c = search needs
+
 say-requires-2 : tie.Need-say-requires-2 Inv-loop μ-loop
 say-requires-2 c κs = search needs
 
--- src/main.rt:30:9
 add-l : tie.Need-add-l Inv-loop μ-loop
 add-l c = search needs
 
--- src/main.rt:26:5
 loop-less : tie.Need-loop-less Inv-loop μ-loop
 loop-less c = search needs
 
--- src/main.rt:26:5
 loop-again : tie.Need-loop-again Inv-loop μ-loop
 loop-again c = search needs
 
--- src/main.rt:32:9
 slice-aggregate-say-2 : tie.Need-slice-aggregate-say-2 Inv-loop μ-loop
 slice-aggregate-say-2 c = search needs
 
--- src/main.rt:32:5
 say-requires-3 : tie.Need-say-requires-3 Inv-loop μ-loop
 say-requires-3 c κs = search needs
 
--- src/main.rt:19:1
 same-length : tie.Need-same-length Inv-loop μ-loop
 same-length c = search needs
 
--- src/main.rt:19:1
 returns : tie.Need-returns Inv-loop μ-loop
 returns c = search needs
 
