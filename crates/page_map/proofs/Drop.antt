@@ -1,19 +1,27 @@
 -- Invalidating and forgetting, by the words that the code reads. Assumes nothing.
-use Prim.Native.Nat.{ℕ, _+_, _≤_, _<_}
+use Prim.Native.Nat.{ℕ, _+_, _-_, _≤_, _<_}
 use native.Mathlib.Omega.{arith}
-use mathlib.Core.Path.{_≡_, sym, ap, _∙_, subst⁻¹}
+use mathlib.Core.Path.{_≡_, sym, ap, ap₂, _∙_, subst⁻¹}
 use mathlib.Core.Logic.{_≢_}
 use mathlib.Core.List.{List}
-use lib.ListN.{length}
+use lib.ListN.{length, take, drop}
+use lib.Seq.{drop-drop}
 use borrow.Author.Tests.{eq-eqb, ne-eqb}
 use Rattle.model.specs.declared.Geometry.{Geometry}
+use Rattle.model.specs.Lists.{zeros}
 use Rattle.model.specs.Numbers.{empty, segOf}
-use Rattle.model.specs.Tables.{Tables, at, wordOf, view, oFree, oFlags, oQueued}
+use Rattle.model.specs.Tables.{Tables, at, wordOf, region, view, oFree, oQueue, oFlags, oQueued}
+use Rattle.model.specs.Sound.{Mapped}
 use Rattle.model.specs.Contract.{Held}
 use Rattle.model.specs.PageMap.{unlink, enqueue, invalidate, forget}
+use Rattle.model.proofs.Slots.{drop-take}
+use Rattle.model.proofs.Unlink.{unlink-sound}
+use Rattle.model.proofs.Enqueue.{has-room}
 use Rattle.model.proofs.Forget.{forgot}
 use Rattle.model.proofs.View.{free-at, flags-at, queued-at}
 use Rattle.model.proofs.Held.{counted, held-by}
+use Rattle.page_map.specs.Parts.{Room}
+use Rattle.page_map.proofs.Words.{linked}
 
 -- the three ways of invalidating: queued, flagged already, not full
 module _ (G : Geometry) (w : List ℕ) (l g : ℕ) (hg : g < G .n) (u : List ℕ) where
@@ -29,9 +37,29 @@ module _ (G : Geometry) (w : List ℕ) (l g : ℕ) (hg : g < G .n) (u : List ℕ
   unfolding invalidate
   invalidate-open f = rw (ne-eqb _ _ (λ q. f (sym (free-at G w u g 0 hg) ∙ q)))
 
--- taking a page out of its list leaves the queue as long as it was
-pub queued-fits : {G : Geometry} {w u : List ℕ} → Held G w u → (w′ : List ℕ) (l g : ℕ) → view G w′ u ≡ unlink G l g (view G w u) → at w′ (oQueued G) ≤ G .n
-queued-fits {G} {w} {u} H w′ l g e = omega (arith, ap (λ t. t .queued) e, queued-at G w′ u, counted H .queued≤)
+-- after a page is taken out of its list the queue is as long as it was; and if the segment is due it has room: `has-room`
+module _ {G : Geometry} {w u : List ℕ} (H : Held G w u) (w′ : List ℕ) (l g : ℕ) (e : view G w′ u ≡ unlink G l g (view G w u)) where
+  pub queued-fits : at w′ (oQueued G) ≤ G .n
+  queued-fits = omega (arith, ap (λ t. t .queued) e, queued-at G w′ u, counted H .queued≤)
+
+  -- the words behind the queue, by the view
+  behind-is : (k : ℕ) → drop k (view G w′ u .queue) ≡ region (oQueue G + k) (G .n - k) w′
+  unfolding view
+  behind-is k = drop-take k (G .n) (drop (oQueue G) w′) ∙ ap (take (G .n - k)) (drop-drop k (oQueue G) w′)
+
+  pub queue-room : Mapped (view G w u) l → segOf G (wordOf (view G w u) l) ≡ g → at w (oFree G + g) ≡ 0 → at w (oFlags G + g) ≡ 0 → Room G w′
+  queue-room m is f h =
+      let C = unlink-sound G (view G w u) (counted H) l g m is in
+      let seg : g < G .n = linked H l g m is .seg in
+      let q : at w′ (oQueued G) ≡ view G w u .queued = sym (queued-at G w′ u) ∙ ap (λ t. t .queued) e in
+      record {
+        some = omega (arith, q, has-room G (unlink G l g (view G w u)) C g seg (free-at G w u g 0 seg ∙ f) (flags-at G w u g 0 seg ∙ h));
+        blank =
+            sym (behind-is (at w′ (oQueued G)))
+            ∙ ap₂ drop q (ap (λ t. t .queue) e)
+            ∙ C .behind
+            ∙ ap (λ k. zeros (G .n - k)) (sym q);
+      }
 
 -- the two ways of forgetting
 module _ (G : Geometry) (t : Tables) (l a : ℕ) (is : a ≡ wordOf t l) where

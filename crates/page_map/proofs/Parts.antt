@@ -1,29 +1,70 @@
 -- Laws of slots and of the queue: one turn of each loop, and what the loops come to. Assumes nothing.
-use mathlib.Core.Path.{_≡_, refl, sym, ap, _∙_}
+use mathlib.Core.Path.{_≡_, refl, sym, ap, ap₂, _∙_}
+use mathlib.Core.Logic.{_≢_}
 use mathlib.Core.Bool.{Bool, true, false, cond}
 use mathlib.Core.List.{List, [], _∷_, _++_, append-assoc, append-nil}
-use Prim.Native.Nat.{ℕ, suc, _+_, _-_, _<_, _≤_}
-use native.Mathlib.Nat.{le-of-suc-le-suc, add-zero}
-use native.Mathlib.Numerals.{add-one}
+use Prim.Native.Nat.{ℕ, zero, suc, _+_, _-_, _<_, _≤_}
+use native.Mathlib.Nat.{le-of-suc-le-suc, add-assoc, add-zero}
+use native.Mathlib.Numerals.{add-one, unary-clauses}
 use native.Mathlib.Omega.{arith}
-use lib.ListN.{length, getD, set, take, drop, length-append, length-take, length-drop, drop-of-length-le}
-use lib.Seq.{paste, paste-zero, paste-suc, length-paste-head, drop-cons, take-all, take-suc, set-at, append-snoc, length-take-le, getD-append-add, getD-drop, drop-length}
+use lib.ListN.{length, getD, set, take, drop, length-append, length-take, length-drop, take-append-drop, drop-of-length-le, replicate-append-replicate}
+use lib.Seq.{paste, paste-zero, paste-suc, length-paste-head, drop-cons, take-all, take-suc, set-at, append-snoc, length-take-le, getD-append-add, getD-drop, drop-length, take-add, take-at, drop-drop}
 use lib.Dec.{eqb}
 use borrow.Author.Tests.{eq-eqb, ne-eqb}
-use Rattle.model.specs.Lists.{without, pushFront}
+use Rattle.model.specs.Lists.{bit, occ, without, pushFront, zeros}
+use Rattle.model.specs.Tables.{region}
+use Rattle.model.proofs.Counts.{remove, bit-other, occ-nil, occ-one, occ-append, without-slot}
+use Rattle.model.proofs.Slots.{drop-zeros, take-zeros}
+use Rattle.model.proofs.Regions.{onPart, region-region}
 use Rattle.page_map.specs.Parts.{indexOf, closeUp}
 
--- the search
+-- the search from the end
 
-module _ (x : ℕ) (s : List ℕ) (i : ℕ) where
-  pub index-hit : i < length s → getD s i 0 ≡ x → i + indexOf x (drop i s) ≡ i
-  index-hit h e = rw (drop-cons s i 0 h, eq-eqb _ _ (sym e), add-zero)
+-- where x does not stand before, it first stands here
+index-here : (x : ℕ) (s : List ℕ) (i : ℕ) → i < length s → occ x (take i s) ≡ 0 → getD s i 0 ≡ x → indexOf x s ≡ i
+unfolding occ
+index-here x [] i h e q = absurd (omega arith)
+index-here x (y ∷ s) zero h e q = rw (eq-eqb x y (sym q))
+index-here x (y ∷ s) (suc i) h e q = go (eqb x y) e (λ z. index-here x s i (omega arith) z q)
+  where
+    go : (b : Bool) → bit b + occ x (take i s) ≡ 0 → (occ x (take i s) ≡ 0 → indexOf x s ≡ i) → cond b 0 (suc (indexOf x s)) ≡ suc i
+    go true e ih = absurd (omega arith)
+    go false e ih = ap suc (ih (omega arith))
 
-  pub index-miss : i < length s → (getD s i 0 ≡ x → ⊥) → i + indexOf x (drop i s) ≡ i + 1 + indexOf x (drop (i + 1) s)
-  index-miss h e = rw (drop-cons s i 0 h, ne-eqb _ _ (λ q. e (sym q)), add-one i) (omega arith)
+-- x stands once in the first i + 1 words: at the last of them, or before it
+module _ (x : ℕ) (s : List ℕ) (i : ℕ) (h : i < length s) (once : occ x (take (suc i) s) ≡ 1) where
+  split : occ x (take i s) + bit (eqb x (getD s i 0)) ≡ 1
+  split = ap (λ n. occ x (take i s) + n) (sym (occ-one x _)) ∙ sym (occ-append x (take i s) _) ∙ ap (occ x) (sym (take-suc s i 0 h)) ∙ once
 
-  pub index-end : length s ≤ i → i + indexOf x (drop i s) ≡ i
-  index-end h = rw (drop-of-length-le s h, add-zero)
+  pub index-hit : getD s i 0 ≡ x → i ≡ indexOf x s
+  index-hit e = sym (index-here x s i h (omega (arith, split, ap bit (eq-eqb x (getD s i 0) (sym e)))) e)
+
+  index-before : getD s i 0 ≢ x → occ x (take i s) ≡ 1
+  index-before e = omega (arith, split, bit-other x (getD s i 0) (λ q. e (sym q)))
+
+step-back : (x : ℕ) (s : List ℕ) (i : ℕ) → occ x (take i s) ≡ 1 → (1 ≤ i) × (occ x (take (suc (i - 1)) s) ≡ 1)
+step-back x s zero e = absurd (omega (arith, occ-nil x))
+step-back x s (suc i) e = (omega arith, simp unary-clauses e)
+
+pub index-miss : (x : ℕ) (s : List ℕ) (i : ℕ) → i < length s → occ x (take (suc i) s) ≡ 1 → getD s i 0 ≢ x → (1 ≤ i) × (occ x (take (suc (i - 1)) s) ≡ 1)
+index-miss x s i h once e = step-back x s i (index-before x s i h once e)
+
+-- a slot that holds x once: it has a place, all of it is to be searched, and x is found in it
+pub holds-some : (x : ℕ) (s : List ℕ) → occ x s ≡ 1 → 1 ≤ length s
+holds-some x [] e = absurd (omega (arith, occ-nil x))
+holds-some x (y ∷ s) e = omega arith
+
+pub index-start : (x : ℕ) (s : List ℕ) → occ x s ≡ 1 → occ x (take (suc (length s - 1)) s) ≡ 1
+index-start x s e = ap (occ x) (take-all (suc (length s - 1)) s (omega arith)) ∙ e
+
+pub index-in : (x : ℕ) (s : List ℕ) → 0 < occ x s → indexOf x s < length s
+unfolding occ
+index-in x [] h = absurd (omega arith)
+index-in x (y ∷ s) h = go (eqb x y) h (λ b. index-in x s b)
+  where
+    go : (b : Bool) → 0 < bit b + occ x s → (0 < occ x s → indexOf x s < length s) → cond b 0 (suc (indexOf x s)) < suc (length s)
+    go true h ih = omega arith
+    go false h ih = omega (arith, ih (omega arith))
 
 -- closing up
 
@@ -79,15 +120,51 @@ unfolding without
 without-found x [] h = absurd (omega arith)
 without-found x (y ∷ ys) h = without-step x y ys (eqb x y) h (without-found x ys)
 
-without-same : (x y : ℕ) (ys : List ℕ) (b : Bool) → suc (length ys) ≤ cond b 0 (suc (indexOf x ys))
-    → (length ys ≤ indexOf x ys → without x ys ≡ ys) → cond b (ys ++ (0 ∷ [])) (y ∷ without x ys) ≡ y ∷ ys
-without-same x y ys true h ih = absurd (omega arith)
-without-same x y ys false h ih = ap (λ (r : List ℕ). y ∷ r) (ih (le-of-suc-le-suc h))
+-- zeros behind a part
 
-pub without-none : (x : ℕ) (s : List ℕ) → length s ≤ indexOf x s → without x s ≡ s
-unfolding without
-without-none x [] h = refl
-without-none x (y ∷ ys) h = without-same x y ys (eqb x y) h (without-none x ys)
+zeros-turn : (m : ℕ) → zeros m ++ (0 ∷ []) ≡ 0 ∷ zeros m
+zeros-turn m = replicate-append-replicate m 1 0 ∙ ap zeros (add-one m)
+
+-- they stay behind a slot without x
+pub without-front : (x : ℕ) (a : List ℕ) (m : ℕ) → 0 < occ x a → without x (a ++ zeros m) ≡ without x a ++ zeros m
+without-front x a m h =
+    without-slot x a (zeros m) h
+    ∙ ap (λ z. remove x a ++ z) (zeros-turn m)
+    ∙ sym (append-assoc (remove x a) (0 ∷ []) (zeros m))
+    ∙ ap (λ r. r ++ zeros m) (sym (without-slot x a [] h) ∙ ap (without x) (append-nil a))
+
+-- and behind what is pushed in front of one of them
+push-snoc : (x y : ℕ) (s : List ℕ) → pushFront x (s ++ (y ∷ [])) ≡ x ∷ s
+unfolding pushFront
+push-snoc x y s =
+    let all : length (s ++ (y ∷ [])) - 1 ≡ length s = omega (arith, length-append s (y ∷ [])) in
+    ap (λ k. x ∷ take k (s ++ (y ∷ []))) all ∙ ap (λ r. x ∷ r) (take-at s (y ∷ []) (length s) refl)
+
+pub push-zero : (x : ℕ) (a : List ℕ) (m : ℕ) → pushFront x ((a ++ (0 ∷ [])) ++ zeros m) ≡ pushFront x (a ++ (0 ∷ [])) ++ zeros m
+push-zero x a m =
+    let last : (a ++ (0 ∷ [])) ++ zeros m ≡ (a ++ zeros m) ++ (0 ∷ []) =
+    append-assoc a (0 ∷ []) (zeros m) ∙ ap (λ z. a ++ z) (sym (zeros-turn m)) ∙ sym (append-assoc a (zeros m) (0 ∷ [])) in
+    ap (pushFront x) last ∙ push-snoc x 0 (a ++ zeros m) ∙ ap (λ r. r ++ zeros m) (sym (push-snoc x 0 a))
+
+-- a part of a part of zeros
+pub zeros-part : (a m c k : ℕ) (w : List ℕ) → region a m w ≡ zeros m → c + k ≤ m → region (a + c) k w ≡ zeros k
+zeros-part a m c k w e h =
+    sym (region-region a m c k w h) ∙ ap (region c k) e ∙ ap (take k) (drop-zeros c m) ∙ take-zeros k (m - c) (omega arith)
+
+-- a change that leaves them where they are may be given the part alone
+module _ (f : List ℕ → List ℕ) (a k m : ℕ) (w : List ℕ) (blank : region (a + k) m w ≡ zeros m) where
+  wider : region a (k + m) w ≡ region a k w ++ zeros m
+  wider = take-add k m (drop a w) ∙ ap (λ r. region a k w ++ take m r) (drop-drop k a w) ∙ ap (λ r. region a k w ++ r) blank
+
+  rest : drop (a + k) w ≡ zeros m ++ drop (a + (k + m)) w
+  rest = sym (take-append-drop m (drop (a + k) w)) ∙ ap₂ _++_ blank (drop-drop m (a + k) w ∙ ap (λ i. drop i w) (add-assoc a k m))
+
+  pub part-front : f (region a k w ++ zeros m) ≡ f (region a k w) ++ zeros m → onPart a k f w ≡ onPart a (k + m) f w
+  part-front e =
+      ap (λ r. take a w ++ r)
+      (ap (λ r. f (region a k w) ++ r) rest
+      ∙ sym (append-assoc (f (region a k w)) (zeros m) (drop (a + (k + m)) w))
+      ∙ ap (λ r. r ++ drop (a + (k + m)) w) (sym (ap f wider ∙ e)))
 
 -- pushing in front
 

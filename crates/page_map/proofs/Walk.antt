@@ -3,17 +3,19 @@ use Prim.Native.Nat.{ℕ, zero, suc, _+_, _*_, _-_, _%_, _≤_, _<_}
 use native.Mathlib.Nat.{mod-lt, sub-zero}
 use native.Mathlib.Numerals.{add-one}
 use native.Mathlib.Omega.{arith}
-use mathlib.Core.Path.{_≡_}
+use mathlib.Core.Path.{_≡_, refl, sym, ap, _∙_}
 use mathlib.Core.Logic.{_≢_}
 use mathlib.Core.Bool.{cond}
 use mathlib.Core.List.{List}
 use borrow.Author.Tests.{eq-eqb, ne-eqb, lt-ltb}
 use Rattle.model.specs.declared.Geometry.{Geometry}
 use Rattle.model.specs.Tables.{at, view, oFree}
+use Rattle.model.specs.Contract.{Held}
 use Rattle.model.specs.declared.Found.{Found}
 use Rattle.model.specs.declared.Found.the-variants.{At, Nothing}
 use Rattle.model.specs.PageMap.{clearFrom, orElse, usable, findFrom, find}
 use Rattle.model.proofs.View.{free-at, used-is}
+use Rattle.model.proofs.Held.{counted}
 
 step : {i n : ℕ} → i < n → n - i ≡ suc (n - (i + 1))
 step h = omega arith
@@ -34,6 +36,15 @@ module _ (G : Geometry) (used : List ℕ) (g k : ℕ) (r : Found) where
   unfolding clearFrom
   scan-end h = rw (done h)
 
+-- the marks below k are set: the scan may start there
+pub scan-on : (G : Geometry) (used : List ℕ) (g : ℕ) (r : Found) (k : ℕ) → k ≤ G .p → ((j : ℕ) → j < k → at used (g * G .p + j) ≢ 0)
+    → orElse (clearFrom G used g 0 (G .p - 0)) r ≡ orElse (clearFrom G used g k (G .p - k)) r
+scan-on G used g r zero h m = refl
+scan-on G used g r (suc k) h m =
+    scan-on G used g r k (omega arith) (λ j b. m j (omega arith))
+    ∙ scan-miss G used g k r h (m k (omega arith))
+    ∙ ap (λ x. orElse (clearFrom G used g x (G .p - x)) r) (add-one k)
+
 module _ (G : Geometry) (bad w u : List ℕ) (i : ℕ) where
   -- what is found from the i-th segment on
   abbrev pub from : Found
@@ -52,8 +63,11 @@ module _ (G : Geometry) (bad w u : List ℕ) (i : ℕ) (h : i < G .n) (g : ℕ) 
   abbrev pub next : Found
   next = from G bad w u (i + 1)
 
+  low : g < G .n
+  low = let h : (view G w u .alloc + i) % G .n < G .n = mod-lt _ (omega arith) in omega arith
+
   free-is : at (view G w u .free) g ≡ at w (oFree G + g)
-  free-is = let low : (view G w u .alloc + i) % G .n < G .n = mod-lt _ (omega arith) in free-at G w u g 0 (omega arith)
+  free-is = free-at G w u g 0 low
 
   -- one step, by the two tests
   walk-step : from G bad w u i ≡ cond (usable G bad (view G w u) g) (orElse (clearFrom G u g 0 (G .p - 0)) next) next
@@ -66,5 +80,14 @@ module _ (G : Geometry) (bad w u : List ℕ) (i : ℕ) (h : i < G .n) (g : ℕ) 
   pub walk-full : at bad g ≡ 0 → at w (oFree G + g) ≡ 0 → from G bad w u i ≡ next
   walk-full b f = rw (walk-step, eq-eqb _ _ b, free-is, f)
 
-  pub walk-scan : at bad g ≡ 0 → at w (oFree G + g) ≢ 0 → from G bad w u i ≡ orElse (clearFrom G u g 0 (G .p - 0)) next
-  walk-scan b f = let f′ : 0 < at w (oFree G + g) = omega arith in rw (walk-step, eq-eqb _ _ b, free-is, lt-ltb _ _ f′)
+  -- the marks of a segment below p less its free count are set
+  marked : Held G w u → (k : ℕ) → k < G .p - at w (oFree G + g) → at u (g * G .p + k) ≢ 0
+  marked H k h e =
+      let one : at u (g * G .p + k) ≡ 1 = ap (λ x. at x (g * G .p + k)) (sym (used-is G w u)) ∙ counted H .marked g k low (omega (arith, free-is)) in
+      omega arith
+
+  pub walk-scan : Held G w u → at bad g ≡ 0 → at w (oFree G + g) ≢ 0
+      → from G bad w u i ≡ orElse (clearFrom G u g (G .p - at w (oFree G + g)) (G .p - (G .p - at w (oFree G + g)))) next
+  walk-scan H b f =
+      let some : 0 < at w (oFree G + g) = omega arith in
+      rw (walk-step, eq-eqb _ _ b, free-is, lt-ltb _ _ some) (scan-on G u g next (G .p - at w (oFree G + g)) (omega arith) (marked H))

@@ -1,22 +1,26 @@
 -- What the stores of each step make of the view: the definition's step. And what the steps read off sound tables. Assumes nothing.
 use Prim.Native.Nat.{ℕ, zero, suc, _+_, _*_, _-_, _≤_, _<_}
+use native.Mathlib.Nat.{add-assoc, add-zero}
 use native.Mathlib.Omega.{arith}
-use mathlib.Core.Path.{_≡_, refl, sym, _∙_}
-use mathlib.Core.List.{List, [], _∷_}
-use lib.ListN.{length, getD, set, length-set}
-use Rattle.model.specs.Lists.{without, pushFront}
+use mathlib.Core.Path.{_≡_, refl, sym, ap, ap₂, _∙_}
+use mathlib.Core.List.{List, [], _∷_, _++_}
+use lib.ListN.{length, getD, set, take, drop, length-set}
+use lib.Seq.{take-add, take-take, drop-drop, drop-set-lt}
+use Rattle.model.specs.Lists.{occ, without, pushFront, zeros}
 use Rattle.model.specs.declared.Geometry.{Geometry}
 use Rattle.model.specs.Numbers.{empty, addr, segOf}
-use Rattle.model.specs.Tables.{at, wordOf, region, view, tabWords, oFree, oValid, oLens, oQueue, oFlags, oAlloc, oQueued, oLists}
+use Rattle.model.specs.Tables.{at, wordOf, listOf, region, view, tabWords, oFree, oValid, oLens, oQueue, oFlags, oAlloc, oQueued, oLists}
 use Rattle.model.specs.Sound.{Mapped}
 use Rattle.model.specs.Contract.{Held}
 use Rattle.model.specs.PageMap.{spend, unlink, enqueue, place}
-use Rattle.model.proofs.Slots.{part-fits, below-part}
+use Rattle.model.proofs.Slots.{part-fits, below-part, drop-take}
+use Rattle.model.proofs.Reading.{names-one}
 use Rattle.model.proofs.Unlink.{len-pos, mapped-lt}
 use Rattle.model.proofs.Regions.{onPart, onPart-length, region-length}
-use Rattle.model.proofs.View.{map-at, free-at, valid-at, lens-at, queued-at, used-is, set-map, set-free, set-valid, set-lens, set-flags, set-alloc, set-queued, set-lists, set-used, queue-whole, row-back, Row, row, Heads, heads}
+use Rattle.model.proofs.View.{map-at, free-at, valid-at, lens-at, row-at, queued-at, used-is, set-map, set-free, set-valid, set-lens, set-flags, set-alloc, set-queued, set-lists, set-used, queue-whole, row-back, Row, row, Heads, heads}
 use Rattle.model.proofs.Held.{counted}
-use Rattle.page_map.proofs.Parts.{length-without, length-push}
+use Rattle.page_map.specs.Parts.{Room}
+use Rattle.page_map.proofs.Parts.{length-without, length-push, without-front, push-zero, zeros-part, part-front}
 
 -- where an index is in a list, what is given past the end is nothing
 getD-any : (xs : List ℕ) (i a b : ℕ) → i < length xs → getD xs i a ≡ getD xs i b
@@ -54,6 +58,71 @@ linked {G} {w} {u} H l g m e =
       listed = omega (arith, lens-at G w u g 0 hg);
       counted = omega (arith, lens-at G w u g 0 hg, row-of H g hg .listed);
     }
+
+-- and the list that it leaves, with l out of the map: the list's first words, of which l is one once, and zeros behind
+module _ {G : Geometry} {w u : List ℕ} (H : Held G w u) (l g : ℕ) (m : Mapped (view G w u) l) (e : segOf G (wordOf (view G w u) l) ≡ g) where
+  abbrev spot : ℕ
+  spot = oLists G + g * G .p
+
+  abbrev len : ℕ
+  len = at w (oLens G + g)
+
+  seg : g < G .n
+  seg = linked H l g m e .seg
+
+  pub short : at w (oLens G + g) ≤ G .p
+  short = omega (arith, row-of H g seg)
+
+  cleared : (a k : ℕ) → G .e ≤ a → region a k (set w l empty) ≡ region a k w
+  cleared a k h = ap (take k) (drop-set-lt a w l empty (omega (arith, linked H l g m e .logical)))
+
+  row-list : listOf G (view G w u) g ≡ region spot len w
+  row-list = ap₂ take (lens-at G w u g 0 seg) (row-at G w u g seg) ∙ take-take len (G .p) (drop spot w) short
+
+  pub list-once : occ l (region (oLists G + g * G .p) (at w (oLens G + g)) (set w l empty)) ≡ 1
+  list-once =
+      ap (occ l) (cleared spot len (omega arith) ∙ sym row-list) ∙ counted H .listed l g seg ∙ names-one G (wordOf (view G w u) l) g m e
+
+  behind : region (spot + len) (G .p - len) (set w l empty) ≡ zeros (G .p - len)
+  behind =
+      cleared (spot + len) (G .p - len) (omega arith)
+      ∙ ap (take (G .p - len)) (sym (drop-drop len spot w))
+      ∙ sym (drop-take len (G .p) (drop spot w))
+      ∙ sym (ap₂ drop (lens-at G w u g 0 seg) (row-at G w u g seg))
+      ∙ counted H .tails g seg
+      ∙ ap (λ x. zeros (G .p - x)) (lens-at G w u g 0 seg)
+
+  pub list-part : onPart (oLists G + g * G .p) (at w (oLens G + g)) (without l) (set w l empty) ≡ onPart (oLists G + g * G .p) (G .p) (without l) (set w l empty)
+  list-part =
+      let whole : len + (G .p - len) ≡ G .p = omega (arith, short) in
+      part-front (without l) spot len (G .p - len) (set w l empty) behind
+      (without-front l (region spot len (set w l empty)) (G .p - len) (omega (arith, list-once)))
+      ∙ ap (λ k. onPart spot k (without l) (set w l empty)) whole
+
+-- a queue that has room: its words and one zero, and zeros behind
+module _ (G : Geometry) (w : List ℕ) (R : Room G w) (g : ℕ) where
+  abbrev places : ℕ
+  places = at w (oQueued G)
+
+  first-zero : region (oQueue G) (places + 1) w ≡ region (oQueue G) places w ++ (0 ∷ [])
+  first-zero =
+      let one : 0 + 1 ≤ G .n - places = omega (arith, R .some) in
+      take-add places 1 (drop (oQueue G) w)
+      ∙ ap (λ r. region (oQueue G) places w ++ take 1 r) (drop-drop places (oQueue G) w)
+      ∙ ap (λ r. region (oQueue G) places w ++ r)
+      (ap (λ k. region k 1 w) (sym (add-zero (oQueue G + places))) ∙ zeros-part (oQueue G + places) (G .n - places) 0 1 w (R .blank) one)
+
+  other-zeros : region (oQueue G + (places + 1)) (G .n - (places + 1)) w ≡ zeros (G .n - (places + 1))
+  other-zeros =
+      ap (λ k. region k (G .n - (places + 1)) w) (sym (add-assoc (oQueue G) places 1))
+      ∙ zeros-part (oQueue G + places) (G .n - places) 1 (G .n - (places + 1)) w (R .blank) (omega (arith, R .some))
+
+  pub queue-part : onPart (oQueue G) (at w (oQueued G) + 1) (pushFront g) w ≡ onPart (oQueue G) (G .n) (pushFront g) w
+  queue-part =
+      let whole : places + 1 + (G .n - (places + 1)) ≡ G .n = omega (arith, R .some) in
+      part-front (pushFront g) (oQueue G) (places + 1) (G .n - (places + 1)) w other-zeros
+      (rw first-zero (push-zero g (region (oQueue G) places w) (G .n - (places + 1))))
+      ∙ ap (λ k. onPart (oQueue G) k (pushFront g) w) whole
 
 module _ (G : Geometry) (w : List ℕ) (hs : length w ≡ tabWords G) (g : ℕ) (hg : g < G .n) where
   pub spend-words : (k : ℕ) (u : List ℕ)

@@ -4,29 +4,27 @@ ghost use mathlib.Core.List.{List};
 ghost use Prim.Native.Nat.{ℕ, _^_, _≤_, _<_};
 ghost use lib.Dec.{eqb};
 ghost use lib.ListN.{length};
-ghost use Rattle.model.specs.Lists.{without, pushFront};
+ghost use Rattle.model.specs.Lists.{occ, without, pushFront};
 ghost use Rattle.model.specs.Numbers.{Good, empty, addr, segOf, pageOf};
 ghost use Rattle.model.specs.Tables.{at, wordOf, view, tabWords, oQueued};
 ghost use Rattle.model.specs.Sound.{Mapped};
 ghost use Rattle.model.specs.Contract.{Held};
 ghost use Rattle.model.specs.PageMap.{find, spend, unlink, enqueue, invalidate, forget, place};
 ghost use Rattle.model.specs.PageGc.{lastOf};
-ghost use Rattle.page_map.specs.Parts.{indexOf, closeUp};
+ghost use Rattle.page_map.specs.Parts.{indexOf, closeUp, Room};
 use model::Found;
 use model::Geometry;
 use model::LogicalPage;
 use model::PhysicalAddress;
 
-// Where x first stands in a slot, or the slot's length.
+// Where x stands in a slot that holds it once. Looked for from the end: a collection drops a list's last page.
 fn index_of(slot: &[u32], x: u32) -> usize
+    requires { ⌜ occ x (now slot) ≡ 1 ⌝ }
     ensures { λ r. ⌜ r ≡ indexOf x (now (slot .entry)) ⌝ }
 {
-    let mut i = 0;
-    while i < slot.len() {
-        if slot[i] == x {
-            return i;
-        }
-        i += 1;
+    let mut i = slot.len() - 1;
+    while slot[i] != x {
+        i -= 1;
     }
     i
 }
@@ -44,14 +42,13 @@ pub fn close_up(slot: &mut [u32], i: usize)
     slot[i + m] = 0;
 }
 
-// The first x out of a slot, if there is one.
+// x out of a slot that holds it once.
 fn remove(slot: &mut [u32], x: u32)
+    requires { ⌜ occ x (now slot) ≡ 1 ⌝ }
     ensures { λ _. ⌜ now (slot .exit) ≡ without x (now (slot .entry)) ⌝ }
 {
     let i = index_of(slot, x);
-    if i < slot.len() {
-        close_up(slot, i);
-    }
+    close_up(slot, i);
 }
 
 // x in front, each word one place up, the last one gone.
@@ -156,6 +153,7 @@ pub fn last_listed(geo: Geometry, v: usize, tab: &[u32]) -> LogicalPage
 }
 
 // The first clear page of the first segment from the allocation segment on that is not bad and has one.
+// A segment's used pages are its first ones, p less its free count, so its marks are looked at from there on.
 pub fn find_page(geo: Geometry, bad: &[u8], tab: &[u32], used: &[u8]) -> Found
     requires { ⌜ Held geo (now tab) (now used) ⌝ }
     requires { ⌜ length (now bad) ≡ geo .n ⌝ }
@@ -173,9 +171,10 @@ pub fn find_page(geo: Geometry, bad: &[u8], tab: &[u32], used: &[u8]) -> Found
         let g = (alloc + i) % n;
         if bad[g] == 0 {
             let f = e + g;
-            if tab[f] != 0 {
+            let free = tab[f] as usize;
+            if free != 0 {
                 let base = g * geo.p;
-                let mut k = 0;
+                let mut k = geo.p - free;
                 while k < geo.p {
                     if used[base + k] == 0 {
                         break 'walk Found::At(g, k);
@@ -209,7 +208,7 @@ pub fn spend(geo: Geometry, g: usize, k: usize, tab: &mut [u32], used: &mut [u8]
     tab[h] = g as u32;
 }
 
-// Logical page l leaves the list of segment g, where it is mapped, and the map.
+// Logical page l leaves the list of segment g, where it is mapped, and the map. Behind the list nothing changes.
 fn unlink(geo: Geometry, l: LogicalPage, g: usize, tab: &mut [u32])
     requires { ⌜ ((u : List ℕ) × Held geo (now tab) u × Mapped (view geo (now tab) u) (l .0) × (segOf geo (wordOf (view geo (now tab) u) (l .0)) ≡ g)) ⌝ }
     ensures { λ _. ⌜ ((u : List ℕ) → view geo (now (tab .exit)) u ≡ unlink geo (l .0) g (view geo (now (tab .entry)) u)) ⌝ }
@@ -224,17 +223,18 @@ fn unlink(geo: Geometry, l: LogicalPage, g: usize, tab: &mut [u32])
     let y = tab[v];
     tab[i] = 4294967295;
     let a = e + n * 5 + 2 + g * p;
-    let z = a + p;
+    let z = a + x as usize;
     remove(&mut tab[a..z], i as u32);
     tab[c] = x - 1;
     tab[v] = y - 1;
 }
 
-// Segment g goes to the queue's front, and its flag is set.
+// Segment g goes to the queue's front, and its flag is set. The queued ones move up by one place, into the first zero behind them.
 fn enqueue(geo: Geometry, g: usize, tab: &mut [u32])
     requires { ⌜ Good geo ⌝ }
     requires { ⌜ length (now tab) ≡ tabWords geo ⌝ }
     requires { ⌜ (g < geo .n) × (at (now tab) (oQueued geo) ≤ geo .n) ⌝ }
+    requires { ⌜ Room geo (now tab) ⌝ }
     ensures { λ _. ⌜ ((u : List ℕ) → view geo (now (tab .exit)) u ≡ enqueue geo g (view geo (now (tab .entry)) u)) ⌝ }
 {
     let e = geo.e;
@@ -243,7 +243,8 @@ fn enqueue(geo: Geometry, g: usize, tab: &mut [u32])
     let m = e + n * 5 + 1;
     let x = tab[m];
     let a = e + n * 3;
-    let z = a + n;
+    let k = x as usize + 1;
+    let z = a + k;
     push_front(&mut tab[a..z], g as u32);
     tab[f] = 1;
     tab[m] = x + 1;

@@ -6,9 +6,9 @@ use mathlib.Core.List.{List}
 use lib.ListN.{length, length-set}
 use borrow.Rule.Slice.PartMut.{putMid}
 use Rattle.model.specs.Lists.{pushFront}
-use Rattle.model.specs.Tables.{oQueue, tabWords}
+use Rattle.model.specs.Tables.{at, oQueue, oQueued, tabWords}
 use Rattle.model.proofs.Regions.{onPart, part-back, back-length}
-use Rattle.page_map.proofs.Words.{enqueue-words}
+use Rattle.page_map.proofs.Words.{queue-part, enqueue-words}
 use borrow.Author.Needs.{needs}
 use Rattle.page_map.proofs.enqueue.Statement.{statement}
 use Rattle.page_map.proofs.enqueue.Tie as tie
@@ -19,24 +19,32 @@ pushing c = c .before .before
 abbrev entry : tie.After-push-front → tie.Start
 entry c = c .before .before .before .before
 
+-- the places that take part: those in use and one more
+abbrev places : tie.Start → ℕ
+places s = at (s .args .tab .now) (oQueued (s .args .geo)) + 1
+
 -- the words after the queue's part has come back
 abbrev part : tie.After-push-front → List ℕ
-part c = let a = entry c .args in putMid (oQueue (a .geo)) (oQueue (a .geo) + a .geo .n - oQueue (a .geo)) (a .tab .now) (c .push-front .last .0)
+part c = let a = entry c .args in putMid (oQueue (a .geo)) (oQueue (a .geo) + places (entry c) - oQueue (a .geo)) (a .tab .now) (c .push-front .last .0)
 
 back : (c : tie.After-push-front) → part c ≡ onPart (oQueue (entry c .args .geo)) (entry c .args .geo .n) (pushFront (entry c .args .g)) (entry c .args .tab .now)
-back c = let a = entry c .args in part-back (a .tab .now) (c .push-front .last .0) (oQueue (a .geo)) (a .geo .n) (pushFront (a .g)) (c .push-front .ensures)
+back c =
+    let s = entry c in
+    let a = s .args in
+    part-back (a .tab .now) (c .push-front .last .0) (oQueue (a .geo)) (places s) (pushFront (a .g)) (c .push-front .ensures)
+    ∙ queue-part (a .geo) (a .tab .now) (s .pre .1 .1 .1) (a .g)
 
 long : (c : tie.After-push-front) → length (part c) ≡ tabWords (entry c .args .geo)
 long c =
     let s = entry c in
     let a = s .args in
-    back-length (a .tab .now) (c .push-front .last .0) (oQueue (a .geo)) (a .geo .n) (omega arith) (c .push-front .kept .0) ∙ s .pre .1 .0
+    back-length (a .tab .now) (c .push-front .last .0) (oQueue (a .geo)) (places s) (omega arith) (c .push-front .kept .0) ∙ s .pre .1 .0
 
 returns : tie.Need-returns
 returns c =
     let s = entry (pushing c) in
     let a = s .args in
-    rw (back (pushing c)) (enqueue-words (a .geo) (a .tab .now) (s .pre .1 .0) (a .g) (s .pre .1 .1 .0))
+    rw (back (pushing c)) (enqueue-words (a .geo) (a .tab .now) (s .pre .1 .0) (a .g) (s .pre .1 .1 .0 .0))
 
 -- sums, indices and lengths
 
@@ -69,6 +77,12 @@ mul-a c = search needs
 
 add-a : tie.Need-add-a
 add-a c = search needs
+
+cast-k : tie.Need-cast-k
+cast-k c = search needs
+
+add-k : tie.Need-add-k
+add-k c = search needs
 
 add-z : tie.Need-add-z
 add-z c = search needs
@@ -123,6 +137,8 @@ enqueue-spec =
     slice-read-x
     mul-a
     add-a
+    cast-k
+    add-k
     add-z
     mul-push-front
     sub-push-front

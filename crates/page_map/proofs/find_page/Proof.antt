@@ -4,12 +4,12 @@ use native.Mathlib.Nat.{mod-lt}
 use native.Mathlib.Omega.{arith}
 use mathlib.Core.Path.{_≡_, sym, ap, _∙_}
 use mathlib.Core.Logic.{⊎-elim}
-use Rattle.model.specs.Tables.{view}
+use Rattle.model.specs.Tables.{at, view, oFree}
 use Rattle.model.specs.PageMap.{find, clearFrom, orElse}
 use Rattle.model.proofs.Slots.{part-fits, below-part}
 use Rattle.model.proofs.View.{alloc-at}
 use Rattle.model.proofs.Held.{slots}
-use Rattle.page_map.proofs.Words.{heads-of}
+use Rattle.page_map.proofs.Words.{row-of, heads-of}
 use Rattle.page_map.proofs.Walk.{from, find-is, scan-hit, scan-miss, scan-end, walk-bad, walk-full, walk-scan, walk-end}
 use borrow.Author.Needs.{needs}
 use Rattle.page_map.proofs.find_page.Statement.{statement}
@@ -17,11 +17,11 @@ use Rattle.page_map.proofs.find_page.Tie as tie
 
 -- of a segment's marks, from page k on
 abbrev Inv-loop : tie.InvT-loop
-Inv-loop geo bad tab used e n h alloc i g f base k₀ k =
+Inv-loop geo bad tab used e n h alloc i g f free base k₀ k =
     (k ≤ geo .p) × (find geo bad (view geo tab used) ≡ orElse (clearFrom geo used g k (geo .p - k)) (from geo bad tab used (i + 1)))
 
 abbrev μ-loop : tie.MeasureT-loop
-μ-loop geo bad tab used e n h alloc i g f base k₀ k = geo .p - k
+μ-loop geo bad tab used e n h alloc i g f free base k₀ k = geo .p - k
 
 -- of the segments, from the i-th on
 abbrev Inv-walk : tie.InvT-walk
@@ -52,8 +52,8 @@ start c = first (read c)
 abbrev usable : tie.Then3 Inv-loop μ-loop Inv-walk μ-walk → Looked
 usable c = c .before .before .before .before
 
-abbrev scanned : tie.After-struct-known Inv-loop μ-loop Inv-walk μ-walk → Looked
-scanned c = usable (c .before)
+abbrev scanned : tie.After-struct-known2 Inv-loop μ-loop Inv-walk μ-walk → Looked
+scanned c = usable (c .before .before)
 
 abbrev looping : tie.Then4 Inv-loop μ-loop Inv-walk μ-walk → tie.At-loop Inv-loop μ-loop Inv-walk μ-walk
 looping c = c .before .before
@@ -79,7 +79,7 @@ walk-holds c = (omega arith, find-is _ _ _ _)
 loop-holds : tie.Need-loop-holds Inv-loop μ-loop Inv-walk μ-walk
 loop-holds c =
     let d = scanned c in
-    (omega arith, d .before .walk .inv .1 ∙ walk-scan _ _ _ _ _ (d .if1 .left) (seg d) (is d) (c .before .before .before .if2 .taken) (c .before .if3 .taken))
+    (omega arith, d .before .walk .inv .1 ∙ walk-scan _ _ _ _ _ (d .if1 .left) (seg d) (is d) (start d .pre .0) (c .before .before .before .before .if2 .taken) (c .before .before .if3 .taken))
 
 loop-again : tie.Need-loop-again Inv-loop μ-loop Inv-walk μ-walk
 loop-again c = let d = c .before .before in (omega arith, looping d .loop .inv .1 ∙ scan-miss _ _ _ _ _ (d .if4 .taken) (c .if5 .left))
@@ -89,7 +89,7 @@ walk-again c =
     let d = c .before .before in
     let here = d .before .walk .inv .1 in (
       omega arith,
-      ⊎-elim (λ w. w .4 .inv .1 ∙ scan-end _ _ _ _ _ (w .6 .left))
+      ⊎-elim (λ w. w .5 .inv .1 ∙ scan-end _ _ _ _ _ (w .7 .left))
           (⊎-elim (λ w. here ∙ walk-full _ _ _ _ _ (d .if1 .left) (seg d) (is d) (w .0 .taken) (w .2 .left))
           (λ w. here ∙ walk-bad _ _ _ _ _ (d .if1 .left) (seg d) (is d) (w .left)))
           (c .if2 .came),
@@ -104,6 +104,10 @@ returns-2 c = let d = c .before .before in sym (looping d .loop .inv .1 ∙ scan
 -- pages, in numbers that fit
 few : (c : Looked) → start c .args .geo .n * start c .args .geo .p ≤ 67107840
 few c = slots (start c .pre .0 .good)
+
+-- the free count of the segment looked at is at most p
+room : (c : Looked) → at (start c .args .tab .now) (oFree (start c .args .geo) + seg c) ≤ start c .args .geo .p
+room c = omega (arith, row-of (start c .pre .0) (seg c) (low c))
 
 -- sums, indices and lengths
 
@@ -134,14 +138,20 @@ shared-slice-read-if2 c = omega (arith, low (c .before))
 add-f : tie.Need-add-f Inv-loop μ-loop Inv-walk μ-walk
 add-f c = omega (arith, low (c .before .before))
 
-mul-if3 : tie.Need-mul-if3 Inv-loop μ-loop Inv-walk μ-walk
-mul-if3 c = omega (arith, low (c .before .before))
+mul-free : tie.Need-mul-free Inv-loop μ-loop Inv-walk μ-walk
+mul-free c = omega (arith, low (c .before .before))
 
-shared-slice-read-if3 : tie.Need-shared-slice-read-if3 Inv-loop μ-loop Inv-walk μ-walk
-shared-slice-read-if3 c = omega (arith, low (c .before .before .before))
+shared-slice-read-free : tie.Need-shared-slice-read-free Inv-loop μ-loop Inv-walk μ-walk
+shared-slice-read-free c = omega (arith, low (c .before .before .before))
+
+cast-free : tie.Need-cast-free Inv-loop μ-loop Inv-walk μ-walk
+cast-free c = let d = c .before .before .before in omega (arith, room d, start d .pre .0 .good .p≤)
 
 mul-base : tie.Need-mul-base Inv-loop μ-loop Inv-walk μ-walk
-mul-base c = let d = scanned c in omega (arith, part-fits (start d .args .geo .p) (low d), few d)
+mul-base c = let d = usable (c .before) in omega (arith, part-fits (start d .args .geo .p) (low d), few d)
+
+sub-k : tie.Need-sub-k Inv-loop μ-loop Inv-walk μ-walk
+sub-k c = omega (arith, room (scanned c))
 
 add-if5 : tie.Need-add-if5 Inv-loop μ-loop Inv-walk μ-walk
 add-if5 c = let d = scan c in omega (arith, below-part (start d .args .geo .p) (low d) (c .if4 .taken), few d)
@@ -179,9 +189,11 @@ find-page-spec =
     rem-g
     shared-slice-read-if2
     add-f
-    mul-if3
-    shared-slice-read-if3
+    mul-free
+    shared-slice-read-free
+    cast-free
     mul-base
+    sub-k
     loop-holds
     add-if5
     shared-slice-read-if5

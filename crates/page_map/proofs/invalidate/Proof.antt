@@ -3,7 +3,7 @@ use native.Mathlib.Omega.{arith}
 use mathlib.Core.Path.{ap, _∙_}
 use Rattle.model.specs.PageMap.{enqueue}
 use Rattle.page_map.proofs.Words.{Linked, linked}
-use Rattle.page_map.proofs.Drop.{invalidate-due, invalidate-flagged, invalidate-open, queued-fits}
+use Rattle.page_map.proofs.Drop.{invalidate-due, invalidate-flagged, invalidate-open, queued-fits, queue-room}
 use borrow.Author.Needs.{needs}
 use Rattle.page_map.proofs.invalidate.Statement.{statement}
 use Rattle.page_map.proofs.invalidate.Tie as tie
@@ -34,7 +34,9 @@ enqueue-requires c κs =
     let a = s .args in
     let w = d .unlink .last .1 .1 .1 .0 in
     let size = d .unlink .kept .1 .1 .1 .0 ∙ s .pre .1 .tables .words-size in
-    (s .pre .1 .good, (size, (link s .seg, queued-fits (s .pre .1) w (a .l .0) (a .g) (d .unlink .ensures (s .pre .0)))))
+    let left = d .unlink .ensures (s .pre .0) in
+    let room = queue-room (s .pre .1) w (a .l .0) (a .g) left (s .pre .2) (s .pre .3) (full c .if1 .taken) (c .before .if2 .taken) in
+    (s .pre .1 .good, (size, ((link s .seg, queued-fits (s .pre .1) w (a .l .0) (a .g) left), room)))
 
 returns : tie.Need-returns
 returns c =

@@ -7,11 +7,11 @@ use lib.ListN.{length, set, length-set}
 use borrow.Rule.Slice.PartMut.{putMid}
 use Rattle.model.specs.Lists.{without}
 use Rattle.model.specs.Numbers.{empty}
-use Rattle.model.specs.Tables.{oLists, tabWords}
+use Rattle.model.specs.Tables.{at, oLens, oLists, tabWords}
 use Rattle.model.proofs.Slots.{part-fits}
 use Rattle.model.proofs.Regions.{onPart, part-back, back-length}
 use Rattle.model.proofs.Held.{slots}
-use Rattle.page_map.proofs.Words.{Linked, linked, unlink-words}
+use Rattle.page_map.proofs.Words.{Linked, linked, short, list-once, list-part, unlink-words}
 use borrow.Author.Needs.{needs}
 use Rattle.page_map.proofs.unlink.Statement.{statement}
 use Rattle.page_map.proofs.unlink.Tie as tie
@@ -29,8 +29,21 @@ spot s = oLists (s .args .geo) + s .args .g * s .args .geo .p
 abbrev cleared : tie.Start → List ℕ
 cleared s = set (s .args .tab .now) (s .args .l .0) empty
 
-fits : (s : tie.Start) → spot s + s .args .geo .p ≤ length (cleared s)
-fits s = simp length-set (omega (arith, part-fits (s .args .geo .p) (link s .seg)))
+-- how long the list is
+abbrev len : tie.Start → ℕ
+len s = at (s .args .tab .now) (oLens (s .args .geo) + s .args .g)
+
+brief : (s : tie.Start) → len s ≤ s .args .geo .p
+brief s = short (s .pre .1) (s .args .l .0) (s .args .g) (s .pre .2) (s .pre .3)
+
+fits : (s : tie.Start) → spot s + len s ≤ length (cleared s)
+fits s = simp length-set (omega (arith, part-fits (s .args .geo .p) (link s .seg), brief s))
+
+remove-requires : tie.Need-remove-requires
+remove-requires c κs =
+    let s = entry (c .before) in
+    let size : spot s + len s - spot s ≡ len s = omega arith in
+    rw size (list-once (s .pre .1) (s .args .l .0) (s .args .g) (s .pre .2) (s .pre .3))
 
 -- the words after the list's part has come back
 abbrev removing : tie.After-slice-known4 → tie.After-remove
@@ -40,15 +53,18 @@ abbrev first : tie.After-remove → tie.Start
 first c = entry (c .before .before)
 
 abbrev part : tie.After-remove → List ℕ
-part c = let s = first c in putMid (spot s) (spot s + s .args .geo .p - spot s) (cleared s) (c .remove .last .0)
+part c = let s = first c in putMid (spot s) (spot s + len s - spot s) (cleared s) (c .remove .last .0)
 
 back : (c : tie.After-remove) → part c ≡ onPart (spot (first c)) (first c .args .geo .p) (without (first c .args .l .0)) (cleared (first c))
-back c = let s = first c in part-back (cleared s) (c .remove .last .0) (spot s) (s .args .geo .p) (without (s .args .l .0)) (c .remove .ensures)
+back c =
+    let s = first c in
+    part-back (cleared s) (c .remove .last .0) (spot s) (len s) (without (s .args .l .0)) (c .remove .ensures)
+    ∙ list-part (s .pre .1) (s .args .l .0) (s .args .g) (s .pre .2) (s .pre .3)
 
 long : (c : tie.After-remove) → length (part c) ≡ tabWords (first c .args .geo)
 long c =
     let s = first c in
-    back-length (cleared s) (c .remove .last .0) (spot s) (s .args .geo .p) (fits s) (c .remove .kept .0)
+    back-length (cleared s) (c .remove .last .0) (spot s) (len s) (fits s) (c .remove .kept .0)
     ∙ length-set (s .args .tab .now) (s .args .l .0) empty
     ∙ s .pre .1 .tables .words-size
 
@@ -115,8 +131,11 @@ mul-a-2 c = omega (arith, row-fits (entry c))
 add-a-3 : tie.Need-add-a-3
 add-a-3 c = omega (arith, row-fits (entry c))
 
+cast-z : tie.Need-cast-z
+cast-z c = omega (arith, brief (entry c), entry c .pre .1 .good .p≤)
+
 add-z : tie.Need-add-z
-add-z c = omega (arith, row-fits (entry c))
+add-z c = omega (arith, row-fits (entry c), brief (entry c))
 
 mul-remove : tie.Need-mul-remove
 mul-remove c = omega (arith, row-fits (entry c))
@@ -132,9 +151,6 @@ part-remove-end c = fits (entry c)
 
 cast-remove : tie.Need-cast-remove
 cast-remove c = omega (arith, link (entry (c .before)), slots (entry (c .before) .pre .1 .good))
-
-remove-requires : tie.Need-remove-requires
-remove-requires c κs = search needs
 
 sub-tab : tie.Need-sub-tab
 sub-tab c = omega (arith, link (first (removing c)))
@@ -174,6 +190,7 @@ unlink-spec =
     add-a-2
     mul-a-2
     add-a-3
+    cast-z
     add-z
     mul-remove
     sub-remove
