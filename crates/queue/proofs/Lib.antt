@@ -1,6 +1,9 @@
 pub mod Stable
 pub mod Words
 pub mod Parts
+pub mod Ordered
+pub mod Counting
+pub mod Placing
 pub mod Merging
 pub mod Sorting
 pub mod Taking
