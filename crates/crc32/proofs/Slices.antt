@@ -1,5 +1,5 @@
 -- What the loops over a slice go by: its next byte is taken in from the front of what is left (`next-byte`), and its next eight
--- bytes after all that stand before them (`next-word`).
+-- bytes, or sixteen, after all that stand before them (`next-word`, `next-pair`).
 use mathlib.Core.Path.{_≡_, sym, ap, ap₂, _∙_}
 use mathlib.Core.List.{List}
 use Prim.Native.Nat.{ℕ, zero, suc, _+_, _*_, _^_, _<_, _≤_}
@@ -49,3 +49,11 @@ module _ (s : List ℕ) (byte : (j : ℕ) → getD s j 0 < 2 ^ 8) where
       ∙ ap (λ (k : ℕ). after (after r (take i s)) (take 8 (drop k s))) (sym (add-zero i))
       ∙ after-part i 8 0 (after r (take i s)) (after-lt r (take i s) hr) (omega arith)
       ∙ ap (λ (x : ℕ). shifts 64 (bitXor (after r (take i s)) x)) word
+
+  pub next-pair : (r i : ℕ) → r < 2 ^ 32 → i + 16 ≤ length s
+      → after r (take (i + 16) s) ≡ shifts 64 (bitXor (shifts 64 (bitXor (after r (take i s)) (wordAt s i))) (wordAt s (i + 8)))
+  next-pair r i hr h =
+      let e : i + 16 ≡ i + 8 + 8 = omega arith in
+      ap (λ (n : ℕ). after r (take n s)) e
+      ∙ next-word r (i + 8) hr (omega arith)
+      ∙ ap (λ (x : ℕ). shifts 64 (bitXor x (wordAt s (i + 8)))) (next-word r i hr (omega arith))

@@ -1,7 +1,7 @@
 -- `crc32::shifted64` meets its contract: each table has what a byte of x becomes.
 use native.Mathlib.Omega.{arith}
 use borrow.Author.Needs.{needs}
-use Rattle.crc32.proofs.Shift.{shifts-64}
+use Rattle.crc32.proofs.Shift.{shifts-word}
 use Rattle.crc32.proofs.shifted64.Statement.{statement}
 use Rattle.crc32.proofs.shifted64.Tie as tie
 
@@ -32,7 +32,7 @@ low-byte-requires-8 c κs = search needs
 returns : tie.Need-returns
 returns c =
     let fourth = c .before .before .before .before in
-    cc (shifts-64 (fourth .before .before .before .before .args .x) (omega arith))
+    cc (shifts-word 1 (fourth .before .before .before .before .args .x) (omega arith))
 
 pub shifted64-spec : {M : Type 1} → statement M
 shifted64-spec =
