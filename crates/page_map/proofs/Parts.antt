@@ -10,7 +10,7 @@ use native.Mathlib.Omega.{arith}
 use lib.ListN.{length, getD, set, take, drop, length-append, length-take, length-drop, take-append-drop, drop-of-length-le, replicate-append-replicate}
 use lib.Seq.{paste, paste-zero, paste-suc, length-paste-head, drop-cons, take-all, take-suc, set-at, append-snoc, length-take-le, getD-append-add, getD-drop, drop-length, take-add, take-at, drop-drop}
 use lib.Dec.{eqb}
-use borrow.Author.Tests.{eq-eqb, ne-eqb}
+use borrow.Author.Tests.{eq-eqb}
 use Rattle.model.specs.Lists.{bit, occ, without, pushFront, zeros}
 use Rattle.model.specs.Tables.{region}
 use Rattle.model.proofs.Counts.{remove, bit-other, occ-nil, occ-one, occ-append, without-slot}
