@@ -11,7 +11,7 @@ type Collect = unsafe extern "C" fn(
     Z, Z, Z, Z, Z, Z, *const u8, Z, *mut u32, Z, *mut u8, Z, *mut u8, Z, *mut u8, Z, *mut u32, Z, *mut u64, *mut u8, Z,
     *mut u8, Z, *mut u32, Z,
 ) -> i64;
-type Sound = unsafe extern "C" fn(Z, Z, Z, Z, Z, Z, *const u32, Z, *const u8, Z, *mut u8, Z) -> i64;
+type Sound = unsafe extern "C" fn(Z, Z, Z, Z, Z, Z, *const u32, Z, *const u8, Z, *mut u8, Z) -> bool;
 
 #[allow(dead_code)]
 unsafe extern "C" {
@@ -76,7 +76,7 @@ unsafe extern "C" {
 unsafe extern "C" {
     fn shr_sound(
         n: Z, p: Z, s: Z, w: Z, e: Z, limit: Z, tab: *const u32, _: Z, used: *const u8, _: Z, seen: *mut u8, _: Z,
-    ) -> i64;
+    ) -> bool;
 }
 #[cfg(inner_write)]
 pub const INNER_WRITE: Option<Write> = Some(shr_inner_write);
@@ -167,7 +167,7 @@ impl Port {
     fn sound(&mut self, f: Sound) -> i64 {
         let Geo { n, p, s, w, e, limit } = self.z;
         let (t, u, x) = (&self.tables.tab, &self.tables.used, &mut self.seen);
-        unsafe { f(n, p, s, w, e, limit, t.as_ptr(), t.len(), u.as_ptr(), u.len(), x.as_mut_ptr(), x.len()) }
+        unsafe { f(n, p, s, w, e, limit, t.as_ptr(), t.len(), u.as_ptr(), u.len(), x.as_mut_ptr(), x.len()) as i64 }
     }
     pub fn write(&mut self, sector: usize, xs: &[u8]) -> i64 {
         self.write_by(shr_write, sector, xs)
