@@ -9,8 +9,14 @@ use borrow.Author.Needs.{needs}
 use Rattle.replay.proofs.digest.Statement.{statement}
 use Rattle.replay.proofs.digest.Tie as tie
 
+abbrev first-1 : tie.After-after-words → tie.After-shared-slice-known8
+first-1 c = c .before .before .before .before
+
+abbrev first-2 : tie.After-after-words → tie.After-shared-slice-known4
+first-2 c = first-1 c .before .before .before .before
+
 abbrev first : tie.After-after-words → tie.Start
-first c = c .before .before .before .before .before .before .before .before .before .before .before .before
+first c = first-2 c .before .before .before .before
 
 returns : tie.Need-returns
 returns c h-tab h-counts h-order =

@@ -5,8 +5,20 @@ use Rattle.replay.proofs.lend.Statement.{statement}
 use Rattle.replay.proofs.lend.Tie as tie
 
 -- where the call has just ended
+abbrev ended-1 : tie.After-slice-known20 → tie.After-slice-known18
+ended-1 c = c .before .before .before .before
+
+abbrev ended-2 : tie.After-slice-known20 → tie.After-slice-known16
+ended-2 c = ended-1 c .before .before .before .before
+
+abbrev ended-3 : tie.After-slice-known20 → tie.After-slice-known14
+ended-3 c = ended-2 c .before .before .before .before
+
+abbrev ended-4 : tie.After-slice-known20 → tie.After-slice-known12
+ended-4 c = ended-3 c .before .before .before .before
+
 abbrev ended : tie.After-slice-known20 → tie.After-lend-rest
-ended c = c .before .before .before .before .before .before .before .before .before .before .before .before .before .before .before .before .before .before .before .before
+ended c = ended-4 c .before .before .before .before
 
 same-length : tie.Need-same-length
 same-length c = omega (arith, ended c .lend-rest .kept .1 .1 .1 .0)
