@@ -28,7 +28,7 @@ use Rattle.model.proofs.Restore.{Back}
 use Rattle.model.proofs.Sealed.{saved-passes, comes-back, accepted-sound, file-end}
 use Rattle.model.proofs.Guard.{each, good-test, test-good, tables-test, test-tables, clean-zeros, unless-passes, guarded-passes, guarded-by}
 use Rattle.model.proofs.Entry.{SoundIn, tab, packed-in, Step, stepped, Begun, Stayed}
-use Rattle.model.proofs.Entry.{opened-or, restored-or, by-kind, Wiped, wiped, opened-flash, restored-flash}
+use Rattle.model.proofs.Entry.{opened-or, restored-or, by-kind, Wiped, wiped, opened-flash, restored-flash, performs}
 
 -- ---- what an encoding that was not refused tells
 
@@ -200,20 +200,26 @@ module _ (G : Geometry) (bad : List ℕ) (r₀ : Recorder) (K : Good G) (S₀ : 
       let W : Wiped G (lit endless r) (formatting G (lent (lit endless r) [] [])) = wiped G (lent (lit endless r) [] []) in
       cut-pages _ i (r .flash) f P (relisted r endless _ (wiped-listed (lit endless r .flash) _ (W .erases))) e k
 
+  -- a call that does no operation leaves the flash, done or cut
+  idle-pages : (c : Call) (r : Recorder) → run G bad c r .ops ≡ [] → Pages (r .flash) → Pages (after G bad c r .flash)
+  idle-pages c r q P = subst Pages (sym (performs G bad c r ∙ ap (λ os. performAll G os (r .flash)) q)) P
+
   -- a call in either phase, done or cut
-  called-inv : (p : Phase) (c : Call) (r : Recorder) → Inv p r → Allowed p c → Keeps file c (run G bad c r .answer) → Spares G M (run G bad c r .ops)
-      → Inv p (after G bad c r)
+  called-inv : (p : Phase) (c : Call) (r : Recorder) → Inv p r → Allowed p c (run G bad c r .ops) → Keeps file c (run G bad c r .answer)
+      → Spares G M (run G bad c r .ops) → Inv p (after G bad c r)
   unfolding Inv
   called-inv running c r B _ k e = called-still c r B k e
-  called-inv lost c r P q k e =
+  called-inv lost c r P (inl q) k e =
       subst (λ c. Spares G M (run G bad c r .ops) → Pages (after G bad c r .flash)) (sym q) (formatted-pages r P) e
+  called-inv lost c r P (inr q) k e = idle-pages c r q P
 
-  cut-inv : (p : Phase) (c : Call) (r : Recorder) (i : ℕ) (f : Flash) → Inv p r → Allowed p c → Spares G M (take (suc i) (opsOf G bad c r))
-      → Cut G i (opsOf G bad c r) (r .flash) f → Pages f
+  cut-inv : (p : Phase) (c : Call) (r : Recorder) (i : ℕ) (f : Flash) → Inv p r → Allowed p c (opsOf G bad c r)
+      → Spares G M (take (suc i) (opsOf G bad c r)) → Cut G i (opsOf G bad c r) (r .flash) f → Pages f
   unfolding Inv
   cut-inv running c r i f B _ e k = cut-pages (opsOf G bad c r) i (r .flash) f (B .pages) (listed c r B) e k
-  cut-inv lost c r i f P q e k =
+  cut-inv lost c r i f P (inl q) e k =
       subst (λ c. Spares G M (take (suc i) (opsOf G bad c r)) → Cut G i (opsOf G bad c r) (r .flash) f → Pages f) (sym q) (formatted-cut r i f P) e k
+  cut-inv lost c r i f P (inr q) e k = subst Pages (sym (subst (λ os. Cut G i os (r .flash) f) q k)) P
 
   regained-still : (r : Recorder) (s : List (List ℕ)) (o : Outcome) → Pages (r .flash) → o .answer ≡ Moved 0
       → Stayed (lent r [] s) o ⊎ Begun G r (restoredFrom G file) o → Still (o .left .unit)

@@ -31,18 +31,19 @@ record Seen : Type 0 where
   replies : List Reply
   left : Recorder
 
--- a device with no bad segment, the memory lent to it at first, the calls, and what is to be seen
+-- a device and its bad list, the memory lent to it at first, the calls, and what is to be seen
 record Row : Type 0 where
   device : Geometry
+  bad : List ℕ
   start : Recorder
   calls : List (Geometry → Call)
   is : Seen
 
-abbrev see : Geometry → List (Geometry → Call) → Recorder → Seen
-see G [] r = record { replies = []; left = r }
-see G (c ∷ cs) r =
-    let o = run G (zeros (G .n)) (c G) r in
-    let rest = see G cs (o .left .unit) in
+abbrev see : Geometry → List ℕ → List (Geometry → Call) → Recorder → Seen
+see G bad [] r = record { replies = []; left = r }
+see G bad (c ∷ cs) r =
+    let o = run G bad (c G) r in
+    let rest = see G bad cs (o .left .unit) in
     record { replies = record { answer = number (o .answer); buffer = o .left .buffer } ∷ rest .replies; left = rest .left }
 
 seen : Row → Seen
@@ -52,7 +53,7 @@ unfolding
     collectThreshold usedBy word long words wordAt longAt wordsAt head file reasonOf welcome settleAll restored unless guarded clean formatting
     opening read encoding restoring write collection listCollection thresholdCollection plus add among powers low remainder bitsOf
     bits digit valueOf dividend crc32
-seen r = see (r .device) (r .calls) (r .start)
+seen r = see (r .device) (r .bad) (r .calls) (r .start)
 
 -- ---- what rows are written with
 
@@ -136,6 +137,13 @@ spoiled alloc entries free G = let b = saved alloc entries free G in set b 40 ((
 abbrev like-A : (n p w limit : ℕ) → Geometry
 like-A n p w limit = record { n = n; p = p; s = 4; w = w; e = 3; limit = limit }
 
+abbrev like : (n p w e limit : ℕ) → Geometry
+like n p w e limit = record { n = n; p = p; s = 4; w = w; e = e; limit = limit }
+
+-- a file of a device whose map is empty and whose pages are all free
+abbrev blank-file : Geometry → List ℕ
+blank-file G = file G 0 (replicate (G .e) none ++ replicate (G .n) (G .p))
+
 abbrev A : Geometry
 A = like-A 2 2 1 5
 
@@ -155,7 +163,14 @@ zeroed G =
 
 -- a row; one of a device "fresh on formatted flash"
 abbrev row : Geometry → Recorder → List (Geometry → Call) → List Reply → Recorder → Row
-row G r cs rs end = record { device = G; start = r; calls = cs; is = record { replies = rs; left = end } }
+row G r cs rs end = record { device = G; bad = zeros (G .n); start = r; calls = cs; is = record { replies = rs; left = end } }
+
+abbrev with-bad : List ℕ → Row → Row
+with-bad b r = record { device = r .device; bad = b; start = r .start; calls = r .calls; is = r .is }
+
+-- zeroed tables over erased flash with these marks and this fuse
+abbrev over : Geometry → List ℕ → ℕ → Recorder
+over G marks fuse = recorder (zeros (tabWords G)) (zeros (pages G)) (flash (replicate (pages G * G .s) 255) marks (zeros (G .n)) fuse)
 
 abbrev new : Geometry → List (Geometry → Call) → List Reply → Recorder → Row
 new G cs rs end = row G (zeroed G) (formats ∷ opens ∷ cs) (moved 0 ∷ moved 0 ∷ rs) end
@@ -339,6 +354,85 @@ table =
     (formats ∷ [])
     (moved 0 ∷ [])
     (mem (litter 1) (flash (fill (four 255 255 7 7)) (four 0 0 1 1) (two 0 4) 0))
+    -- a mark of 2 on page 0.2 refuses it, and only it: the page is spent; the valid counts 1, 2, 1 with list lengths 0, 1, 2 sort the queue; no room is 14
+    ∷ row (like 3 3 2 4 5) (over (like 3 3 2 4 5) (three 0 0 2 ++ six 0 0 0 0 0 0) endless)
+    (opens ∷ page 0 2 ∷ page 0 3 ∷ page 0 4 ∷ gc ∷ page 0 6 ∷ page 3 7 ∷ page 3 8 ∷ page 2 9 ∷ page 3 10 ∷ page 2 11 ∷ gc ∷ page 3 13 ∷ [])
+    (moved 0 ∷ moved 4 ∷ moved 4 ∷ refused 5 ∷ moved 0 ∷ moved 4 ∷ moved 4 ∷ moved 4 ∷ moved 4 ∷ moved 4 ∷ moved 4 ∷ refused 14 ∷ refused 14 ∷ [])
+    (mem
+    (tables (four 4 none 10 9) (three 0 0 0) (three 1 1 2) (replicate 9 1) (six 0 0 0 0 0 0 ++ three 3 2 0) (three 0 1 2) (three 0 2 0) (three 1 1 1) 2 2)
+    (flash (fill (three 2 3 255 ++ six 6 7 8 9 10 11)) (six 1 1 2 1 1 1 ++ three 1 1 1) (three 0 0 0) endless))
+    -- a bad segment, marked 9, is passed; of two listed pages the last is copied first
+    ∷ with-bad (three 0 9 0) (new (like 3 3 2 4 5)
+    (page 0 2 ∷ page 2 3 ∷ page 1 4 ∷ page 0 5 ∷ gc ∷ page 1 9 ∷ [])
+    (moved 4 ∷ moved 4 ∷ moved 4 ∷ moved 4 ∷ moved 0 ∷ moved 4 ∷ [])
+    (mem
+    (tables (four 8 0 10 none) (three 2 3 0) (three 1 0 2) (three 1 0 0 ++ six 0 0 0 1 1 1) (six 1 0 0 0 0 0 ++ three 0 2 0) (three 1 0 2) (three 2 0 0) (three 0 0 1) 0 1)
+    (flash (fill (three 9 255 255 ++ six 255 255 255 5 4 3)) (six 1 0 0 0 0 0 ++ three 1 1 1) (three 1 0 0) endless)))
+    -- a fuse of 4: a refused programming leaves it; a copy's 5 is 14, from the list too
+    ∷ row (like 2 3 2 4 5) (over (like 2 3 2 4 5) (six 0 0 2 0 0 0) 4)
+    (opens ∷ page 3 2 ∷ page 1 3 ∷ page 3 9 ∷ page 1 10 ∷ page 0 11 ∷ gcList 3 ∷ [])
+    (moved 0 ∷ moved 4 ∷ moved 4 ∷ refused 5 ∷ moved 4 ∷ moved 4 ∷ refused 14 ∷ [])
+    (mem
+    (tables (four 5 4 none 0) (two 0 0) (two 2 3) (six 1 1 1 1 1 1) (six 3 0 0 1 0 0) (two 1 2) (two 0 0) (two 1 0) 1 0)
+    (flash (fill (six 2 3 255 10 11 255)) (six 1 1 2 1 1 0) (two 0 0) 0))
+    -- total free counts bad segments
+    ∷ with-bad (two 9 0) (new (like 2 2 2 2 5)
+    (page 0 1 ∷ page 0 2 ∷ gcBelow 0 2 ∷ gcBelow 1 2 ∷ [])
+    (moved 4 ∷ moved 4 ∷ moved 0 ∷ moved 0 ∷ [])
+    (mem
+    (tables (two 5 none) (two 2 0) (two 0 1) (four 0 0 1 1) (four 0 0 0 0) (two 0 1) (two 1 0) (two 0 1) 1 1)
+    (flash (fill (four 255 255 1 2)) (four 0 0 1 1) (two 0 0) endless)))
+    -- a record with a spent page, its valid count above its list's length, is reset to 0
+    ∷ row (like 2 3 2 2 5) (over (like 2 3 2 2 5) (six 0 2 0 0 0 0) endless)
+    (opens ∷ page 0 4 ∷ page 0 5 ∷ page 0 6 ∷ gcList 3 ∷ [])
+    (moved 0 ∷ moved 4 ∷ refused 5 ∷ moved 4 ∷ moved 0 ∷ [])
+    (mem
+    (tables (two 4 none) (two 3 2) (two 0 1) (six 0 0 0 1 0 0) (six 0 0 0 0 0 0) (two 0 1) (two 0 0) (two 0 0) 1 0)
+    (flash (fill (six 255 255 255 6 255 255)) (six 0 0 0 1 0 0) (two 1 0) endless))
+    -- a read at an offset, into a longer buffer; logical page e
+    ∷ new A
+    (put 0 (four 1 2 3 4) ∷ (λ G. Read 1 2 (four 9 9 9 9) (zeros (G .n + G .p) ∷ [])) ∷ get 12 1 ∷ [])
+    (moved 4 ∷ shows 2 (four 2 3 9 9) ∷ keeps 22 (zeros 1) ∷ [])
+    (mem
+    (tables (three 0 none none) (two 1 2) (two 1 0) (four 1 0 0 0) (four 0 0 0 0) (two 1 0) (two 0 0) (two 0 0) 0 0)
+    (flash (four 1 2 3 4 ++ fill (three 255 255 255)) (four 1 0 0 0) (two 0 0) endless))
+    -- reasons 1 to 6, each where the next holds too
+    ∷ new A
+    (load (λ _. zeros 43)
+    ∷ load (λ G. set (set (blank-file G) 0 0) 4 2)
+    ∷ load (λ G. set (blank-file (like 3 2 1 2 5)) 4 2)
+    ∷ load (λ _. blank-file (like 3 2 1 2 5))
+    ∷ load (λ _. blank-file (like 2 3 2 2 5))
+    ∷ load (λ _. blank-file (like 2 2 1 2 5))
+    ∷ load (λ G. spoiled 0 (three none none none) (two 2 2) G ++ (0 ∷ []))
+    ∷ [])
+    (refused 1 ∷ refused 2 ∷ refused 3 ∷ refused 4 ∷ refused 4 ∷ refused 5 ∷ refused 6 ∷ [])
+    untouched
+    -- a restore over tables with a queue: two pages in one list, ascending; a full segment with dead pages: valid 0, not queued
+    ∷ new A3
+    (page 0 1 ∷ page 0 2 ∷ load (saved 1 (three 3 2 none) (three 2 0 0)) ∷ [])
+    (moved 4 ∷ moved 4 ∷ moved 0 ∷ [])
+    (mem
+    (tables (three 3 2 none) (three 2 0 0) (three 0 2 0) (six 0 0 1 1 1 1) (six 0 0 0 1 0 0) (three 0 2 0) (three 0 0 0) (three 0 0 0) 1 0)
+    (flash (fill (six 1 2 255 255 255 255)) (six 1 1 0 0 0 0) (three 0 0 0) endless))
+    -- 117 comes before the logical page, for every entry that tests soundness
+    ∷ row A (mem (litter 1) (worn endless))
+    (put 12 (9 ∷ []) ∷ gc ∷ gcList 1 ∷ gcBelow 0 1 ∷ save ∷ get 12 9 ∷ [])
+    (refused 117 ∷ refused 117 ∷ refused 117 ∷ refused 117 ∷ keeps 117 (replicate 66 9) ∷ keeps 117 (zeros 9) ∷ [])
+    (mem (litter 1) (worn endless))
+    -- formatting whatever the count: 5 is the limit; sizes: scratch that is not zero, data shorter than the length, data longer (the first two bytes are laid in)
+    ∷ row A (mem (litter 1) (flash (fill (four 7 7 7 7)) (four 1 1 1 1) (two 5 6) endless))
+    (formats ∷ opens
+    ∷ (λ G. Write 0 2 (two 7 8) ((1 ∷ zeros 3) ∷ zeros (G .n + G .p) ∷ []))
+    ∷ (λ G. Write 0 2 (7 ∷ []) (zeros (G .s) ∷ zeros (G .n + G .p) ∷ []))
+    ∷ (λ G. Write 0 2 (three 7 8 9) (zeros (G .s) ∷ zeros (G .n + G .p) ∷ []))
+    ∷ (λ G. Read 0 2 (7 ∷ []) (zeros (G .n + G .p) ∷ []))
+    ∷ (λ G. Encode (replicate 63 9) (zeros (G .n + G .p) ∷ []))
+    ∷ [])
+    (moved 0 ∷ moved 0 ∷ refused 22 ∷ refused 22 ∷ moved 2 ∷ keeps 22 (7 ∷ []) ∷ keeps 22 (replicate 63 9) ∷ [])
+    (mem
+    (tables (three 2 none none) (two 2 1) (two 0 1) (four 0 0 1 0) (four 0 0 0 0) (two 0 1) (two 0 0) (two 0 0) 1 0)
+    (flash (fill (two 255 255) ++ four 7 8 0 0 ++ fill (255 ∷ [])) (four 0 0 1 0) (two 0 0) endless))
     ∷ []
 
 examples : map seen table ≡ map (λ r. r .is) table

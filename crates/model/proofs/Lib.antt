@@ -44,5 +44,7 @@ pub mod Round
 pub mod Held
 pub mod Turns
 pub mod Refusals
+-- premises that can be met
+pub mod Witness
 -- examples
 pub mod Examples

@@ -106,11 +106,11 @@ pub data Phase : Type 0 where
   running : Phase
   lost : Phase
 
--- While the power is gone the words and use marks may hold anything, even the words of other sound tables, so no call but formatting, which
--- has no tables lent, can be made before the file is restored.
-abbrev pub Allowed : Phase → Call → Type 0
-Allowed running c = Unit {0}
-Allowed lost c = c ≡ Format
+-- While the power is gone the words and use marks may hold anything, even the words of other sound tables. So before the file is restored no call
+-- may be made that does a device operation (`ops` are those of the call), but formatting, which has no tables lent.
+abbrev pub Allowed : Phase → Call → List Op → Type 0
+Allowed running c ops = Unit {0}
+Allowed lost c ops = (c ≡ Format) ⊎ (ops ≡ [])
 
 -- The recorders r that can come of r₀, where the checkpoint `file` was taken, under demand 3's premises: any fuse may be lent; no call is an
 -- opening or a restore of another file; the erases begun spare the segments of pages mapped then; the power may go between calls, or at any
@@ -118,12 +118,12 @@ Allowed lost c = c ≡ Format
 pub data Since (G : Geometry) (bad : List ℕ) (r₀ : Recorder) (file : List ℕ) : Phase → Recorder → Type 0 where
   checkpoint : Since G bad r₀ file running r₀
   lent-fuse : {p : Phase} {r : Recorder} → Since G bad r₀ file p r → (f : ℕ) → Since G bad r₀ file p (lit f r)
-  called : {p : Phase} {r : Recorder} → Since G bad r₀ file p r → (c : Call) → Allowed p c
+  called : {p : Phase} {r : Recorder} → Since G bad r₀ file p r → (c : Call) → Allowed p c (run G bad c r .ops)
       → Keeps file c (run G bad c r .answer)
       → Spares G (mapIn G r₀) (run G bad c r .ops)
       → Since G bad r₀ file p (after G bad c r)
   off : {p : Phase} {r : Recorder} → Since G bad r₀ file p r → (w u : List ℕ) → Since G bad r₀ file lost (recorder w u (r .flash))
-  cut : {p : Phase} {r : Recorder} → Since G bad r₀ file p r → (c : Call) → Allowed p c → (i : ℕ) (f : Flash)
+  cut : {p : Phase} {r : Recorder} → Since G bad r₀ file p r → (c : Call) → Allowed p c (opsOf G bad c r) → (i : ℕ) (f : Flash)
       → Spares G (mapIn G r₀) (take (suc i) (opsOf G bad c r))
       → Cut G i (opsOf G bad c r) (r .flash) f
       → (w u : List ℕ) → Since G bad r₀ file lost (recorder w u f)
