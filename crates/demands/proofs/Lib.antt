@@ -1,0 +1,16 @@
+-- the rows of 01's table: what a refusal leaves, exactly when each answer is given, its sign
+pub mod Passed
+pub mod Unchanged
+pub mod Ends
+pub mod Leaves
+pub mod Tested
+pub mod Exactly
+pub mod Signs
+-- units: formatted and opened, what a read shows, marked pages, power on
+pub mod Fresh
+pub mod Seen
+pub mod Marked
+pub mod Kept
+pub mod PowerOn
+-- premises that can be met
+pub mod Premises

@@ -1,0 +1,134 @@
+-- "Each call answers one signed number: bytes moved, or a refusal number negated.": its exact sign cases, for every call on every input.
+use Prim.Native.Nat.{ℕ, zero, suc, _+_, _≤_, _<_}
+use native.Mathlib.Omega.{arith}
+use mathlib.Core.Path.{_≡_, refl, sym, subst}
+use mathlib.Core.Bool.{Bool, true, false, cond}
+use mathlib.Core.Logic.{_⊎_, inl, inr, _≢_}
+use mathlib.Core.List.{List, [], _∷_}
+use lib.Dec.{eqb}
+use lib.ListN.{length, take}
+use borrow.Author.Tests.{eqb-false}
+use Rattle.model.specs.Lists.{splice, firstNot}
+use Rattle.model.specs.declared.Geometry.{Geometry}
+use Rattle.model.specs.declared.Answer.{Answer}
+use Rattle.model.specs.declared.Answer.the-variants.{Moved, Refused}
+use Rattle.model.specs.declared.Cause.the-variants.{Wrong, Unsound, Unmapped, NoRoom, Device, CopyNoRoom, CopyDevice, Erase, Reason}
+use Rattle.model.specs.Device.{State, Out, mayProgram}
+use Rattle.model.specs.declared.Found.{Found}
+use Rattle.model.specs.declared.Found.the-variants.{At, Nothing}
+use Rattle.model.specs.PageMap.{find}
+use Rattle.model.specs.PageWrite.{oldPage, stored, spent, writeAt, writePage}
+use Rattle.model.specs.PageGc.{collectList}
+use Rattle.model.specs.Checkpoint.{fileTests, reasonOf}
+use Rattle.model.specs.Entry.{Recorder, Lent, lent, Outcome, unless, stateOf, collecting}
+use Rattle.model.specs.Entry.{formatting, opening, read, write, collection, listCollection, thresholdCollection, encoding, restoring}
+use Rattle.model.specs.History.{Call, Format, Open, Read, Write, Collect, CollectList, CollectThreshold, Encode, Restore, run}
+use Rattle.model.proofs.Guard.{unless-by, guarded-by}
+use Rattle.demands.proofs.Unchanged.{Pass, collect-pass, more-pass, threshold-pass, formats-all}
+use Rattle.demands.specs.When.{Positive, Negative}
+
+-- "and the reason is the answer": 1 to 9
+abbrev pub Fair : Answer → Type 0
+Fair (Refused (Reason k)) = (1 ≤ k) × (k ≤ 9)
+Fair (Moved m) = Unit {0}
+Fair (Refused Wrong) = Unit {0}
+Fair (Refused Unsound) = Unit {0}
+Fair (Refused Unmapped) = Unit {0}
+Fair (Refused NoRoom) = Unit {0}
+Fair (Refused Device) = Unit {0}
+Fair (Refused CopyNoRoom) = Unit {0}
+Fair (Refused CopyDevice) = Unit {0}
+Fair (Refused Erase) = Unit {0}
+
+pass-fair : (a : Answer) → Pass a → Fair a
+pass-fair (Moved m) h = tt
+pass-fair (Refused Wrong) h = tt
+pass-fair (Refused Unsound) h = tt
+pass-fair (Refused Unmapped) h = tt
+pass-fair (Refused NoRoom) h = tt
+pass-fair (Refused Device) h = tt
+pass-fair (Refused CopyNoRoom) h = tt
+pass-fair (Refused CopyDevice) h = tt
+pass-fair (Refused Erase) h = tt
+pass-fair (Refused (Reason k)) h = absurd h
+
+-- the first test that fails is one of them
+first-in : (k : ℕ) (bs : List Bool) → (firstNot k bs ≡ 0) ⊎ ((k ≤ firstNot k bs) × (firstNot k bs < k + length bs))
+first-in k [] = inl refl
+first-in k (false ∷ bs) = inr (omega arith, omega arith)
+first-in k (true ∷ bs) = go (first-in (suc k) bs)
+  where
+    go : (firstNot (suc k) bs ≡ 0) ⊎ ((suc k ≤ firstNot (suc k) bs) × (firstNot (suc k) bs < suc k + length bs))
+        → (firstNot (suc k) bs ≡ 0) ⊎ ((k ≤ firstNot (suc k) bs) × (firstNot (suc k) bs < k + suc (length bs)))
+    go (inl e) = inl e
+    go (inr h) = inr (omega (arith, h .0), omega (arith, h .1))
+
+pub reason-in : (G : Geometry) (b : List ℕ) → reasonOf G b ≢ 0 → (1 ≤ reasonOf G b) × (reasonOf G b ≤ 9)
+unfolding reasonOf
+reason-in G b n = go (first-in 1 (fileTests G b))
+  where
+    go : (firstNot 1 (fileTests G b) ≡ 0) ⊎ ((1 ≤ firstNot 1 (fileTests G b)) × (firstNot 1 (fileTests G b) < 10))
+        → (1 ≤ firstNot 1 (fileTests G b)) × (firstNot 1 (fileTests G b) ≤ 9)
+    go (inl e) = absurd (n e)
+    go (inr h) = (h .0, omega (arith, h .1))
+
+module _ (G : Geometry) (bad : List ℕ) where
+  abbrev FairOut : Outcome → Type 0
+  FairOut o = Fair (o .answer)
+
+  write-fair : (l off : ℕ) (d : List ℕ) (st : State) → Fair (writePage G bad l off d st .answer)
+  unfolding writePage writeAt
+  write-fair l off d st = go (find G bad (st .tab))
+    where
+      at-page : (g k : ℕ) (b : Bool) → Fair ((cond b (stored G l (length d) g k (splice off d (oldPage G st l)) st) (spent G g k st)) .answer)
+      at-page g k true = tt
+      at-page g k false = tt
+
+      go : (r : Found) → Fair (writeAt G r l off d st .answer)
+      go Nothing = tt
+      go (At g k) = at-page g k (mayProgram G g k (st .flash))
+
+  restored-fair : (b : List ℕ) (c : Bool) → eqb (reasonOf G b) 0 ≡ c → (x : Lent) (o : Outcome) → FairOut o → FairOut (unless c (Reason (reasonOf G b)) x o)
+  unfolding unless
+  restored-fair b true e x o h = h
+  restored-fair b false e x o h = reason-in G b (eqb-false _ _ e)
+
+  collecting-fair : (x : Lent) (o : Out) → Pass (o .answer) → FairOut (collecting G bad x o)
+  collecting-fair x o h = guarded-by FairOut _ _ _ _ x _ tt tt (λ _ _ _ _. pass-fair (o .answer) h)
+
+  -- every reason that a call answers lies from 1 to 9
+  pub fair : (c : Call) (r : Recorder) → Fair (run G bad c r .answer)
+  unfolding formatting opening read write encoding restoring collection listCollection thresholdCollection collectList
+  fair Format r = guarded-by FairOut _ _ _ _ (lent r [] []) _ tt tt (λ _ _ _ _. subst Fair (sym (formats-all G bad (G .n) 0 (stateOf G (lent r [] [])))) tt)
+  fair Open r = guarded-by FairOut _ _ _ _ (lent r [] []) _ tt tt (λ _ _ _ _. tt)
+  fair (Read sector len o s) r =
+      guarded-by FairOut _ _ _ _ (lent r o s) _ tt tt (λ _ _ _ _. unless-by FairOut _ Unmapped (lent r o s) _ tt (λ _. tt))
+  fair (Write sector len d s) r = guarded-by FairOut _ _ _ _ (lent r [] s) _ tt tt (λ _ _ _ _. write-fair _ _ (take len d) (stateOf G (lent r [] s)))
+  fair (Collect s) r = collecting-fair (lent r [] s) _ (collect-pass G bad (stateOf G (lent r [] s)))
+  fair (CollectList m s) r = collecting-fair (lent r [] s) _ (more-pass G bad m 0 (stateOf G (lent r [] s)))
+  fair (CollectThreshold t m s) r = collecting-fair (lent r [] s) _ (threshold-pass G bad t m (stateOf G (lent r [] s)))
+  fair (Encode b s) r = guarded-by FairOut _ _ _ _ (lent r b s) _ tt tt (λ _ _ _ _. tt)
+  fair (Restore b s) r = guarded-by FairOut _ _ _ _ (lent r [] s) _ tt tt (λ _ _ _ _. restored-fair b _ refl (lent r [] s) _ tt)
+
+  pub signs : (c : Call) (r : Recorder) → Positive (run G bad c r .answer) ⊎ Negative (run G bad c r .answer)
+  signs c r = go (run G bad c r .answer) (fair c r)
+    where
+      past : (k : ℕ) → 1 ≤ k → Negative (Refused (Reason k))
+      past zero h = absurd (omega arith)
+      past (suc k) h = record { cause = Reason (suc k); below = k; answer = refl; refusal-is = refl; number-is = refl }
+
+      go : (a : Answer) → Fair a → Positive a ⊎ Negative a
+      go (Moved m) h = inl (record { moved = m; answer = refl; number-is = refl })
+      go (Refused Wrong) h = inr (record { cause = Wrong; below = 21; answer = refl; refusal-is = refl; number-is = refl })
+      go (Refused Unsound) h = inr (record { cause = Unsound; below = 116; answer = refl; refusal-is = refl; number-is = refl })
+      go (Refused Unmapped) h = inr (record { cause = Unmapped; below = 60; answer = refl; refusal-is = refl; number-is = refl })
+      go (Refused NoRoom) h = inr (record { cause = NoRoom; below = 13; answer = refl; refusal-is = refl; number-is = refl })
+      go (Refused Device) h = inr (record { cause = Device; below = 4; answer = refl; refusal-is = refl; number-is = refl })
+      go (Refused CopyNoRoom) h = inr (record { cause = CopyNoRoom; below = 13; answer = refl; refusal-is = refl; number-is = refl })
+      go (Refused CopyDevice) h = inr (record { cause = CopyDevice; below = 13; answer = refl; refusal-is = refl; number-is = refl })
+      go (Refused Erase) h = inr (record { cause = Erase; below = 4; answer = refl; refusal-is = refl; number-is = refl })
+      go (Refused (Reason k)) h = inr (past k (h .0))
+
+  -- a reason from 1 to 9
+  pub reasons : (c : Call) (r : Recorder) (k : ℕ) → run G bad c r .answer ≡ Refused (Reason k) → (1 ≤ k) × (k ≤ 9)
+  reasons c r k e = subst Fair e (fair c r)
