@@ -18,7 +18,7 @@ use Rattle.model.specs.Lists.{splice}
 use Rattle.model.specs.Numbers.{number}
 use Rattle.model.specs.Device.{Flash, flash}
 use Rattle.model.specs.Entry.{Recorder, recorder, Lent, lent, Outcome, noFlash, read, encoding, restoring}
-use Rattle.ftl.proofs.Frame.{over, withFlash, read-alone, encoding-alone, restoring-alone}
+use Rattle.model.proofs.Frame.{over, withFlash, read-alone, encoding-alone, restoring-alone}
 use Rattle.records.specs.declared.Record.{Record}
 use Rattle.records.specs.declared.Record.the-variants.{Read}
 use Rattle.records.specs.declared.Next.{Next}

@@ -123,7 +123,7 @@ and-false : (b : Bool) → (b && false) ≡ false
 and-false true = refl
 and-false false = refl
 
-forget-flagged : (G : Geometry) (l v : ℕ) (t : Tables) → Mapped t l → segOf G (wordOf t l) ≡ v → at (t .flags) v ≡ 1 → forget G l t ≡ unlink G l v t
+pub forget-flagged : (G : Geometry) (l v : ℕ) (t : Tables) → Mapped t l → segOf G (wordOf t l) ≡ v → at (t .flags) v ≡ 1 → forget G l t ≡ unlink G l v t
 unfolding forget invalidate
 forget-flagged G l v t m e f =
     let d : due G v t ≡ false = rw f (and-false (eqb (at (t .free) v) 0)) in

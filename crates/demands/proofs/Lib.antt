@@ -12,5 +12,12 @@ pub mod Seen
 pub mod Marked
 pub mod Kept
 pub mod PowerOn
+-- the protocol of docs/USING.md
+pub mod Sparing
+pub mod Protocol
+pub mod Draining
+pub mod Steps
 -- premises that can be met
 pub mod Premises
+-- the three demands, of the functions that run
+pub mod Demands

@@ -1,27 +1,37 @@
--- The premises of Leaves, Exactly, Seen, Kept, Fresh and PowerOn can be met: a unit of device A, by computation.
-use Prim.Native.Nat.{ℕ}
+-- The premises of Leaves, Signs, Seen, Fresh, Marked, Kept and PowerOn can be met: two units of device A and A3, by computation. Exactly asks nothing.
+use Prim.Native.Nat.{ℕ, _≤_}
 use native.Mathlib.Omega.{arith}
 use mathlib.Core.Path.{_≡_, refl}
-use mathlib.Core.List.{List, [], _∷_}
+use mathlib.Core.List.{List, [], _∷_, _++_}
 use lib.ListN.{take, replicate}
-use Rattle.model.specs.Lists.{without, pushFront, insertBy, sortBy, splice, total, occ, all, every, blank, upTo, zeros}
+use Rattle.crc32.specs.Crc32.{plus, add, among, powers, low, remainder, bitsOf, bits, digit, number as valueOf, dividend, crc32}
 use Rattle.model.specs.declared.Geometry.{Geometry}
 use Rattle.model.specs.declared.Answer.the-variants.{Moved}
-use Rattle.model.specs.declared.Cause.the-variants.{Device, CopyNoRoom, CopyDevice, Erase}
+use Rattle.model.specs.declared.Cause.the-variants.{Wrong, Unmapped, NoRoom, Device, CopyNoRoom, CopyDevice, Erase, Reason}
+use Rattle.model.specs.Lists.{without, pushFront, insertBy, sortBy, splice, total, occ, all, every, blank, upTo, zeros}
 use Rattle.model.specs.Numbers.{good?, endless}
 use Rattle.model.specs.Tables.{view, packed}
 use Rattle.model.specs.Sound.{names, soundb}
-use Rattle.model.specs.Device.{flash, burn, mayProgram, mayErase, formatFrom}
+use Rattle.model.specs.Device.{Flash, flash, burn, mayProgram, mayErase, formatFrom, formattedFlash}
 use Rattle.model.specs.PageMap.{clearFrom, findFrom, find, invalidate, forget}
 use Rattle.model.specs.PageWrite.{oldPage, writeAt, writePage}
-use Rattle.model.specs.PageGc.{sorted, finishOf, drain, collectOf, collect}
-use Rattle.model.specs.Checkpoint.{usedBy}
-use Rattle.model.specs.Entry.{Recorder, recorder, unless, guarded, clean, formatting, opening, write, collection}
-use Rattle.model.specs.History.{Call, Format, Open, Read, Write, Collect, run, after, lit}
-use Rattle.demands.proofs.Leaves.{leaves}
-use Rattle.demands.proofs.Seen.{read-after-write}
+use Rattle.model.specs.PageGc.{sorted, finishOf, drain, collectOf, collect, collectMore, collectList, collectThreshold}
+use Rattle.model.specs.Checkpoint.{fresh, usedBy, word, long, words, wordAt, longAt, wordsAt, head, file, reasonOf, welcome, settleAll, restored}
+use Rattle.model.specs.Entry.{Recorder, recorder, unless, guarded, clean, formatting, opening, read, write, collection, listCollection, thresholdCollection, encoding, restoring}
+use Rattle.model.specs.History.{Call, Format, Open, Read, Write, Collect, CollectList, CollectThreshold, Encode, Restore, run, after, lit}
+use Rattle.model.specs.History.{Reached, by-opening, lost, Since, GivesBack}
+use Rattle.model.specs.History as history
+use Rattle.model.proofs.Guard.{good-test}
+use Rattle.model.proofs.Entry.{reached-sound}
+use Rattle.model.proofs.Witness as witness
 use Rattle.demands.specs.Left.{Leaves}
-use Rattle.demands.specs.Unit.{MarkedIn, FromOpening, opens, calls, lends-fuse}
+use Rattle.demands.specs.Unit.{burnt, MarkedIn, Shows, Ever, start, cut, FromOpening, opens, calls, regains}
+use Rattle.demands.proofs.Leaves.{leaves}
+use Rattle.demands.proofs.Signs.{reasons}
+use Rattle.demands.proofs.Fresh.{started}
+use Rattle.demands.proofs.Seen.{read-after-write, read-behind-collection}
+use Rattle.demands.proofs.Kept.{unit-restores}
+use Rattle.demands.proofs.PowerOn.{powered-read, powered-encode, powered-restore}
 
 abbrev A : Geometry
 A = record { n = 2; p = 2; s = 4; w = 1; e = 3; limit = 5 }
@@ -29,59 +39,136 @@ A = record { n = 2; p = 2; s = 4; w = 1; e = 3; limit = 5 }
 abbrev bad : List ℕ
 bad = zeros 2
 
--- flash that holds anything, tables of zeros: formatted, opened, whole pages 0, 1, 0 written
-abbrev r₀ : Recorder
-r₀ = recorder (zeros 19) (zeros 4) (flash (replicate 16 7) (replicate 4 9) (replicate 2 8) endless)
-
 abbrev put : ℕ → ℕ → Call
 put l x = Write l 4 (replicate 4 x) (zeros 4 ∷ zeros 4 ∷ [])
 
-abbrev gc : Call
-gc = Collect (zeros 4 ∷ zeros 4 ∷ zeros 2 ∷ [])
+abbrev gc : List (List ℕ)
+gc = zeros 4 ∷ zeros 4 ∷ zeros 2 ∷ []
 
-abbrev r₁ : Recorder
-r₁ = after A bad Open (after A bad Format r₀)
+-- flash that holds anything, tables of zeros: formatted, opened, whole pages 0, 1, 0 written
+abbrev any : Recorder
+any = recorder (zeros 19) (zeros 4) (flash (replicate 16 7) (replicate 4 9) (replicate 2 8) endless)
 
-abbrev r₂ : Recorder
-r₂ = after A bad (put 0 3) (after A bad (put 4 2) (after A bad (put 0 1) r₁))
+abbrev unit : Recorder
+unit = after A bad (put 0 3) (after A bad (put 4 2) (after A bad (put 0 1) (after A bad Open (after A bad Format any))))
 
--- each refusal that leaves something: a write with no fuse; a collection with no fuse, and with fuse 1, whose copy is done and whose erase is refused;
--- a collection without room, once page 2 is written too
-module _ where
-  abbrev Rows : Type 0
-  Rows =
-      Leaves A bad (put 0 5) (lit 0 r₂) Device (run A bad (put 0 5) (lit 0 r₂))
-      × Leaves A bad gc (lit 0 r₂) CopyDevice (run A bad gc (lit 0 r₂))
-      × Leaves A bad gc (lit 1 r₂) Erase (run A bad gc (lit 1 r₂))
-      × Leaves A bad gc (after A bad (put 8 4) r₂) CopyNoRoom (run A bad gc (after A bad (put 8 4) r₂))
+-- with page 2 written too there is no room
+abbrev full : Recorder
+full = after A bad (put 8 4) unit
 
-  rows : Rows
-  unfolding
-      without pushFront insertBy sortBy splice total occ all every blank upTo good? view packed names soundb burn mayProgram mayErase formatFrom
-      clearFrom findFrom find invalidate forget oldPage writeAt writePage sorted finishOf drain collectOf collect usedBy unless guarded clean
-      formatting opening write collection
-  rows = (
-    leaves A bad (put 0 5) (lit 0 r₂) Device refl,
-    leaves A bad gc (lit 0 r₂) CopyDevice refl,
-    leaves A bad gc (lit 1 r₂) Erase refl,
-    leaves A bad gc (after A bad (put 8 4) r₂) CopyNoRoom refl,
-  )
+-- its checkpoint; then a write of page 2 torn, and all tables lost; then regained
+abbrev saving : Call
+saving = Encode (zeros 64) (zeros 4 ∷ [])
 
--- a unit from its opening on
-from-opening : FromOpening A bad (after A bad gc (lit 1 r₂))
-unfolding every good? view packed burn formatFrom usedBy unless guarded formatting opening
-from-opening = calls (lends-fuse (calls (calls (calls (opens (after A bad Format r₀) refl) (put 0 1) tt) (put 4 2) tt) (put 0 3) tt) 1) gc tt
+abbrev kept : List ℕ
+kept = take 64 (run A bad saving unit .left .buffer)
 
--- read after write
-seen : (run A bad (Read 1 2 (zeros 4) (zeros 4 ∷ [])) (after A bad (Write 1 2 (5 ∷ 6 ∷ []) (zeros 4 ∷ zeros 4 ∷ [])) r₂) .answer ≡ Moved 2)
-    × (take 2 (run A bad (Read 1 2 (zeros 4) (zeros 4 ∷ [])) (after A bad (Write 1 2 (5 ∷ 6 ∷ []) (zeros 4 ∷ zeros 4 ∷ [])) r₂) .left .buffer) ≡ 5 ∷ 6 ∷ [])
+abbrev torn : Flash
+torn = flash (replicate 4 1 ++ replicate 4 2 ++ replicate 4 3 ++ replicate 4 9) (1 ∷ 1 ∷ 1 ∷ 7 ∷ []) (0 ∷ 0 ∷ []) endless
+
+abbrev dark : Recorder
+dark = recorder (zeros 19) (zeros 4) torn
+
+abbrev again : Recorder
+again = after A bad (Restore kept (zeros 4 ∷ [])) dark
+
+-- every refusal that leaves something: a write with no fuse; a collection with no fuse, and with fuse 1, whose copy is done and whose erase is refused;
+-- one without room; the same from the list and by a threshold. And one of each that leaves nothing changed
+pub record Rows : Type 0 where
+  spent : Leaves A bad (put 0 5) (lit 0 unit) Device (run A bad (put 0 5) (lit 0 unit))
+  copy : Leaves A bad (Collect gc) (lit 0 unit) CopyDevice (run A bad (Collect gc) (lit 0 unit))
+  erase : Leaves A bad (Collect gc) (lit 1 unit) Erase (run A bad (Collect gc) (lit 1 unit))
+  room : Leaves A bad (Collect gc) full CopyNoRoom (run A bad (Collect gc) full)
+  list : Leaves A bad (CollectList 3 gc) full CopyNoRoom (run A bad (CollectList 3 gc) full)
+  threshold : Leaves A bad (CollectThreshold 9 3 gc) (lit 1 unit) Erase (run A bad (CollectThreshold 9 3 gc) (lit 1 unit))
+  wrong : Leaves A bad (put 12 5) unit Wrong (run A bad (put 12 5) unit)
+  none : Leaves A bad (put 0 5) full NoRoom (run A bad (put 0 5) full)
+  unmapped : Leaves A bad (Read 8 4 (zeros 4) (zeros 4 ∷ [])) unit Unmapped (run A bad (Read 8 4 (zeros 4) (zeros 4 ∷ [])) unit)
+  reason : Leaves A bad (Restore [] (zeros 4 ∷ [])) unit (Reason 1) (run A bad (Restore [] (zeros 4 ∷ [])) unit)
+  reason-in : (1 ≤ 1) × (1 ≤ 9)
+
+rows : Rows
 unfolding
     without pushFront insertBy sortBy splice total occ all every blank upTo good? view packed names soundb burn mayProgram mayErase formatFrom
-    clearFrom findFrom find invalidate forget oldPage writeAt writePage usedBy unless guarded clean formatting opening write
-seen = read-after-write A bad 1 2 2 (5 ∷ 6 ∷ []) (zeros 4 ∷ zeros 4 ∷ []) r₂ refl (zeros 4) (zeros 4 ∷ []) (omega arith) refl
+    clearFrom findFrom find invalidate forget oldPage writeAt writePage sorted finishOf drain collectOf collect collectMore collectList
+    collectThreshold usedBy reasonOf unless guarded clean formatting opening read write collection listCollection thresholdCollection restoring
+rows =
+    record {
+      spent = leaves A bad (put 0 5) (lit 0 unit) Device refl;
+      copy = leaves A bad (Collect gc) (lit 0 unit) CopyDevice refl;
+      erase = leaves A bad (Collect gc) (lit 1 unit) Erase refl;
+      room = leaves A bad (Collect gc) full CopyNoRoom refl;
+      list = leaves A bad (CollectList 3 gc) full CopyNoRoom refl;
+      threshold = leaves A bad (CollectThreshold 9 3 gc) (lit 1 unit) Erase refl;
+      wrong = leaves A bad (put 12 5) unit Wrong refl;
+      none = leaves A bad (put 0 5) full NoRoom refl;
+      unmapped = leaves A bad (Read 8 4 (zeros 4) (zeros 4 ∷ [])) unit Unmapped refl;
+      reason = leaves A bad (Restore [] (zeros 4 ∷ [])) unit (Reason 1) refl;
+      reason-in = reasons A bad (Restore [] (zeros 4 ∷ [])) unit 1 refl;
+    }
 
--- and why an accepted formatting is left out of Kept: it erases under the tables
-format-breaks : MarkedIn A (after A bad Format r₂) → ⊥
+-- formatted, opened, worked, its power cut, regained by its own checkpoint; and a checkpoint of that unit gives everything back
+pub record Regained : Type 0 where
+  begun : after A bad Open (after A bad Format any) ≡ recorder (packed (fresh A)) (fresh A .used) (formattedFlash A (burnt 2 endless))
+  opened : FromOpening A bad unit
+  ever : Ever A bad unit dark
+  regained : FromOpening A bad again
+  back : GivesBack A bad again (take 64 (run A bad saving again .left .buffer)) again
+
+regained : Regained
+unfolding
+    without pushFront insertBy sortBy splice total occ all every blank upTo good? view packed names soundb burn mayProgram mayErase formatFrom
+    clearFrom findFrom find invalidate forget oldPage writeAt writePage usedBy word long words wordAt longAt wordsAt head file reasonOf welcome settleAll
+    restored unless guarded clean formatting opening write encoding restoring plus add among powers low remainder bitsOf bits digit valueOf dividend
+    crc32
+regained =
+    let o : FromOpening A bad unit = calls (calls (calls (opens (after A bad Format any) refl) (put 0 1) tt) (put 4 2) tt) (put 0 3) tt in
+    let v : Ever A bad unit dark = cut start (put 8 4) 0 torn tt (replicate 4 9, 7, refl, omega arith, refl) (zeros 19) (zeros 4) in
+    let a : FromOpening A bad again = regains o (zeros 64) (zeros 4 ∷ []) 64 refl v (zeros 4 ∷ []) refl in
+    record {
+      begun = started A (good-test A refl) bad (replicate 16 7) (replicate 4 9) (replicate 2 8) endless refl refl refl (omega arith);
+      opened = o;
+      ever = v;
+      regained = a;
+      back = unit-restores A bad again a (zeros 64) (zeros 4 ∷ []) 64 refl start refl refl;
+    }
+
+-- what a read shows: behind a write, and the same before and behind a collection that moved the page
+pub record Seen : Type 0 where
+  written : (run A bad (Read 1 2 (zeros 4) (zeros 4 ∷ [])) (after A bad (Write 1 2 (5 ∷ 6 ∷ []) (zeros 4 ∷ zeros 4 ∷ [])) unit) .answer ≡ Moved 2)
+      × (take 2 (run A bad (Read 1 2 (zeros 4) (zeros 4 ∷ [])) (after A bad (Write 1 2 (5 ∷ 6 ∷ []) (zeros 4 ∷ zeros 4 ∷ [])) unit) .left .buffer) ≡ 5 ∷ 6 ∷ [])
+  moved : Shows (run A bad (Read 4 4 (zeros 4) (zeros 4 ∷ [])) (after A bad (Collect gc) unit)) (run A bad (Read 4 4 (zeros 4) (zeros 4 ∷ [])) unit)
+
+seen : Seen
+unfolding
+    without pushFront insertBy sortBy splice total occ all every blank upTo good? view packed names soundb burn mayProgram mayErase formatFrom
+    clearFrom findFrom find invalidate forget oldPage writeAt writePage sorted finishOf drain collectOf collect usedBy unless guarded clean
+    formatting opening write collection
+seen =
+    let reached : Reached A bad unit = history.called (history.called (history.called (by-opening (after A bad Format any) refl) (put 0 1)) (put 4 2)) (put 0 3) in
+    record {
+      written = read-after-write A bad 1 2 2 (5 ∷ 6 ∷ []) (zeros 4 ∷ zeros 4 ∷ []) unit refl (zeros 4) (zeros 4 ∷ []) (omega arith) refl;
+      moved = read-behind-collection A bad (Collect gc) tt unit (reached-sound A bad reached) refl 4 4 (zeros 4) (zeros 4 ∷ []);
+    }
+
+-- at power on, before the file is restored
+pub record Dark : Type 0 where
+  reads : Since witness.A3 witness.bad witness.r₀ witness.kept lost (after witness.A3 witness.bad (Read 0 4 (zeros 4) (zeros 5 ∷ [])) witness.dark)
+  encodes : Since witness.A3 witness.bad witness.r₀ witness.kept lost (after witness.A3 witness.bad (Encode (zeros 68) (zeros 5 ∷ [])) witness.dark)
+  restores : Since witness.A3 witness.bad witness.r₀ witness.kept lost (after witness.A3 witness.bad (Restore [] (zeros 6 ∷ [])) witness.dark)
+
+dark-calls : Dark
+unfolding every good? blank reasonOf unless guarded clean restoring
+dark-calls =
+    let h = witness.story .first in
+    record {
+      reads = powered-read h 0 4 (zeros 4) (zeros 5 ∷ []);
+      encodes = powered-encode h (zeros 68) (zeros 5 ∷ []);
+      restores = powered-restore h [] (zeros 6 ∷ []) tt;
+    }
+
+-- why an accepted formatting is left out of `Ordinary`: it erases under the tables
+format-breaks : MarkedIn A (after A bad Format unit) → ⊥
 unfolding
     without pushFront insertBy sortBy splice total occ all every blank upTo good? view packed names soundb burn mayProgram mayErase formatFrom
     clearFrom findFrom find invalidate forget oldPage writeAt writePage usedBy unless guarded clean formatting opening write

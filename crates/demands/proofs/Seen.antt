@@ -18,18 +18,21 @@ use Rattle.model.specs.Tables.{wordOf, pages}
 use Rattle.model.specs.Sound.{soundb, Mapped}
 use Rattle.model.specs.Device.{state, Out}
 use Rattle.model.specs.PageWrite.{nothing, holds, content, whole, oldPage, writePage}
-use Rattle.model.specs.Entry.{Recorder, Lent, lent, Outcome, outcome, unless, guarded, clean, stateOf, back, tablesFit, pageScratch, seenScratch, allFits, read, write}
-use Rattle.model.specs.History.{Read, Write, run, after, contentOf}
+use Rattle.model.specs.Entry.{Recorder, Lent, lent, Outcome, outcome, unless, guarded, clean, stateOf, tablesOf, back, tablesFit, pageScratch, seenScratch, allFits, read, write, collecting, collection, listCollection, thresholdCollection}
+use Rattle.model.specs.History.{Call, Format, Open, Read, Write, Collect, CollectList, CollectThreshold, Encode, Restore, run, after, contentOf}
 use Rattle.model.proofs.Decide.{counted-test}
 use Rattle.model.proofs.Slots.{same?}
 use Rattle.model.proofs.View.{view-packed}
 use Rattle.model.proofs.Content.{content-empty, content-mapped}
 use Rattle.model.proofs.Write.{Own, Wrote, wrote, old-length}
 use Rattle.model.proofs.Guard.{each, test-good, test-tables, guarded-by, guarded-passes, unless-passes}
-use Rattle.model.proofs.Entry.{SoundIn, Fits, packed-in, counted-in}
+use Rattle.model.proofs.Entry.{SoundIn, Fits, packed-in, counted-in, kept-sound, collect-content, list-content, threshold-content}
+use Rattle.model.proofs.Working.{Counted}
+use Rattle.model.proofs.Collect.{Kept, collected, collected-list, collected-threshold}
+use Rattle.model.specs.Contract.{Fit}
 use Rattle.demands.proofs.Passed.{all-passed}
 use Rattle.demands.specs.Given.{stateIn, tab}
-use Rattle.demands.specs.Unit.{Shows}
+use Rattle.demands.specs.Unit.{Shows, Collects}
 
 guarded-shows : (a b c d : Bool) (x x′ : Lent) (o o′ : Outcome) → x .buffer ≡ x′ .buffer → x .scratch ≡ x′ .scratch → Shows o o′
     → Shows (guarded a b c d x o) (guarded a b c d x′ o′)
@@ -119,6 +122,55 @@ module _ (G : Geometry) (bad : List ℕ) (sector len : ℕ) (o : List ℕ) (s : 
 
       same : whole G (stateIn G r) l ≡ page
       same = let f : holds (whole G (stateIn G r) l) ≡ holds page = sym (content-mapped G (stateIn G r) l mapped) ∙ e in cc
+
+-- ---- behind a collection
+
+by-collection : (P : Call → Type 0) → ((s : List (List ℕ)) → P (Collect s)) → ((m : ℕ) (s : List (List ℕ)) → P (CollectList m s))
+    → ((t m : ℕ) (s : List (List ℕ)) → P (CollectThreshold t m s))
+    → (c : Call) → Collects c → P c
+by-collection P one list below (Collect s) n = one s
+by-collection P one list below (CollectList m s) n = list m s
+by-collection P one list below (CollectThreshold t m s) n = below t m s
+by-collection P one list below Format n = absurd n
+by-collection P one list below Open n = absurd n
+by-collection P one list below (Read sector len o s) n = absurd n
+by-collection P one list below (Write sector len d s) n = absurd n
+by-collection P one list below (Encode b s) n = absurd n
+by-collection P one list below (Restore b s) n = absurd n
+
+module _ (G : Geometry) (bad : List ℕ) where
+  -- the flash's bytes keep their size
+  collecting-bytes : (x : Lent) (o : Out) → length (x .unit .flash .bytes) ≡ pages G * G .s
+      → (Good G → Counted G (tablesOf G x) → Fit G (x .unit .flash) → Kept G (stateOf G x) o)
+      → length (collecting G bad x o .left .unit .flash .bytes) ≡ pages G * G .s
+  collecting-bytes x o h keeps =
+      guarded-by (λ y. length (y .left .unit .flash .bytes) ≡ pages G * G .s) _ _ _ _ x _ h h
+      (λ a b _ _. let X : Fits G bad x = all-passed G bad _ x a b in keeps (X .good) (X .counted) (X .fit) .fit .bytes)
+
+  collected-bytes : (r : Recorder) → length (r .flash .bytes) ≡ pages G * G .s → (c : Call) → Collects c
+      → length (after G bad c r .flash .bytes) ≡ pages G * G .s
+  unfolding collection listCollection thresholdCollection
+  collected-bytes r h =
+      by-collection (λ c. length (after G bad c r .flash .bytes) ≡ pages G * G .s)
+      (λ s. collecting-bytes (lent r [] s) _ h (λ K S F. collected G K bad _ S F))
+      (λ m s. collecting-bytes (lent r [] s) _ h (λ K S F. collected-list G K bad m _ S F))
+      (λ t m s. collecting-bytes (lent r [] s) _ h (λ K S F. collected-threshold G K bad t m _ S F))
+
+  pub collected-content : (r : Recorder) (l : ℕ) (c : Call) → Collects c → contentOf G (after G bad c r) l ≡ contentOf G r l
+  collected-content r l =
+      by-collection (λ c. contentOf G (after G bad c r) l ≡ contentOf G r l)
+      (λ s. collect-content G bad r s l)
+      (λ m s. list-content G bad r s l m)
+      (λ t m s. threshold-content G bad r s l t m)
+
+  -- a collection, finished or refused, is not seen by any read
+  pub read-behind-collection : (c : Call) → Collects c → (r : Recorder) → SoundIn G r → length (r .flash .bytes) ≡ pages G * G .s
+      → (sector len : ℕ) (o : List ℕ) (s : List (List ℕ)) → Shows (run G bad (Read sector len o s) (after G bad c r)) (run G bad (Read sector len o s) r)
+  read-behind-collection c n r S b sector len o s =
+      read-by-content G bad sector len o s (after G bad c r) r (kept-sound G bad c r S) S (collected-bytes r b c n) b
+      (collected-content r (logicalPage G sector) c n)
+
+-- ---- behind a write
 
 -- the bytes laid in at off, read from there
 laid : (off len : ℕ) (d xs : List ℕ) → length d ≡ len → off + len ≤ length xs → take len (drop off (splice off d xs)) ≡ d

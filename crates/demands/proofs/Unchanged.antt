@@ -1,4 +1,5 @@
--- 01's rows whose third column is "nothing changed" (22, 117, 61, a write's 14, a restore's reasons): nothing that was lent has changed.
+-- 01's rows whose third column is "nothing changed" (22, 117, 61, a write's 14, a restore's reasons): nothing that was lent has changed. And
+-- "zero scratch is handed back zero".
 use Prim.Native.Nat.{ℕ, zero, suc}
 use mathlib.Core.Path.{_≡_, refl, sym, ap, _∙_, subst}
 use mathlib.Core.Bool.{Bool, true, false, cond}
@@ -188,3 +189,23 @@ module _ (G : Geometry) (bad : List ℕ) where
     stays (Restore b s) r =
         guarded-by (Stays (lent r [] s)) _ _ _ _ _ _ (λ _. refl) (λ _. refl)
         (λ _ _ _ _. unless-by (Stays (lent r [] s)) _ (Reason (reasonOf G b)) (lent r [] s) _ (λ _. refl) (λ _ e. none (Moved 0) tt e))
+
+  -- ---- scratch comes back as it was lent, whatever the answer
+
+  abbrev Hands : Lent → Outcome → Type 0
+  Hands x o = o .left .scratch ≡ x .scratch
+
+  pub scratch-back : (c : Call) (r : Recorder) → run G bad c r .left .scratch ≡ lentTo c r .scratch
+  unfolding formatting opening read write collection listCollection thresholdCollection encoding restoring
+  scratch-back Format r = guarded-by (Hands (lent r [] [])) _ _ _ _ _ _ refl refl (λ _ _ _ _. refl)
+  scratch-back Open r = guarded-by (Hands (lent r [] [])) _ _ _ _ _ _ refl refl (λ _ _ _ _. refl)
+  scratch-back (Read sector len o s) r =
+      guarded-by (Hands (lent r o s)) _ _ _ _ _ _ refl refl (λ _ _ _ _. unless-by (Hands (lent r o s)) _ Unmapped (lent r o s) _ refl (λ _. refl))
+  scratch-back (Write sector len d s) r = guarded-by (Hands (lent r [] s)) _ _ _ _ _ _ refl refl (λ _ _ _ _. refl)
+  scratch-back (Collect s) r = guarded-by (Hands (lent r [] s)) _ _ _ _ _ _ refl refl (λ _ _ _ _. refl)
+  scratch-back (CollectList m s) r = guarded-by (Hands (lent r [] s)) _ _ _ _ _ _ refl refl (λ _ _ _ _. refl)
+  scratch-back (CollectThreshold t m s) r = guarded-by (Hands (lent r [] s)) _ _ _ _ _ _ refl refl (λ _ _ _ _. refl)
+  scratch-back (Encode b s) r = guarded-by (Hands (lent r b s)) _ _ _ _ _ _ refl refl (λ _ _ _ _. refl)
+  scratch-back (Restore b s) r =
+      guarded-by (Hands (lent r [] s)) _ _ _ _ _ _ refl refl
+      (λ _ _ _ _. unless-by (Hands (lent r [] s)) _ (Reason (reasonOf G b)) (lent r [] s) _ refl (λ _. refl))

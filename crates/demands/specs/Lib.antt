@@ -3,3 +3,4 @@ pub mod Given
 pub mod When
 pub mod Left
 pub mod Unit
+pub mod Protocol

@@ -38,6 +38,18 @@ pub record Shows (o o′ : Outcome) : Type 0 where
   pub buffer : o .left .buffer ≡ o′ .left .buffer
   pub scratch : o .left .scratch ≡ o′ .left .scratch
 
+-- a collection of any kind
+abbrev pub Collects : Call → Type 0
+Collects (Collect s) = Unit {0}
+Collects (CollectList m s) = Unit {0}
+Collects (CollectThreshold t m s) = Unit {0}
+Collects Format = ⊥
+Collects Open = ⊥
+Collects (Read sector len o s) = ⊥
+Collects (Write sector len d s) = ⊥
+Collects (Encode b s) = ⊥
+Collects (Restore b s) = ⊥
+
 -- each mapped page is marked as programmed
 abbrev pub MarkedAll : Geometry → State → Type 0
 MarkedAll G st = (l : ℕ) → Mapped (st .tab) l → at (st .flash .marks) (flat G (wordOf (st .tab) l)) ≢ 0

@@ -6,6 +6,3 @@ pub mod Answers
 pub mod Writing
 pub mod Collecting
 pub mod Files
-pub mod Frame
-pub mod Refusing
-pub mod Demands

@@ -144,7 +144,7 @@ module _ (G : Geometry) (bad : List ℕ) (r : Recorder) (s : List (List ℕ)) (l
 
 -- a write
 module _ (G : Geometry) (bad : List ℕ) (sector len : ℕ) (d : List ℕ) (x : Lent) where
-  abbrev inner : Out
+  abbrev pub inner : Out
   inner = writePage G bad (logicalPage G sector) (offset G sector) (take len d) (stateOf G x)
 
   -- where its tests pass
@@ -154,7 +154,7 @@ module _ (G : Geometry) (bad : List ℕ) (sector len : ℕ) (d : List ℕ) (x : 
       wrote G (X .good) bad (stateOf G x) (X .counted) (X .fit) (logicalPage G sector) (offset G sector) (take len d) (ltb-true _ _ b)
       (rw (length-take-le len d (leb-true _ _ a)) (leb-true _ _ c))
 
-  wrote-by : (P : Outcome → Type 0) → P (refused Wrong x) → P (refused Unsound x)
+  pub wrote-by : (P : Outcome → Type 0) → P (refused Wrong x) → P (refused Unsound x)
       → ((X : Fits G bad x) → Wrote G (stateOf G x) (logicalPage G sector) (offset G sector) (take len d) inner → P (back G x inner))
       → P (write G bad sector len d x)
   unfolding write

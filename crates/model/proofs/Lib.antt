@@ -42,6 +42,7 @@ pub mod Cut
 pub mod Round
 -- laws for code
 pub mod Held
+pub mod Frame
 pub mod Turns
 pub mod Refusals
 -- premises that can be met

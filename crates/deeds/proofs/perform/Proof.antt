@@ -4,7 +4,7 @@ use mathlib.Core.List.{[]}
 use lib.ListN.{take}
 use Rattle.model.specs.Device.{Flash, flash}
 use Rattle.model.specs.Entry.{recorder, lent, noFlash}
-use Rattle.ftl.proofs.Frame.{read-alone, encoding-alone, restoring-alone}
+use Rattle.model.proofs.Frame.{read-alone, encoding-alone, restoring-alone}
 use Rattle.records.specs.Trace.{Within}
 use Rattle.deeds.specs.Deeds.{Kept, kept}
 use Rattle.deeds.proofs.Laws.{beside, performs}

@@ -5,15 +5,12 @@ use mathlib.Core.Path.{_≡_, refl, ap, _∙_}
 use mathlib.Core.Bool.{Bool, true, false, cond}
 use mathlib.Core.List.{List, [], _∷_}
 use lib.Dec.{eqb}
-use Rattle.model.specs.declared.Geometry.{Geometry}
-use Rattle.model.specs.declared.Cause.{Cause}
-use Rattle.model.specs.declared.Cause.the-variants.{Reason}
+use Rattle.model.specs.Numbers.{Geometry, good?, Cause, Reason}
 use Rattle.model.specs.Lists.{every}
-use Rattle.model.specs.Numbers.{good?}
 use Rattle.model.specs.Tables.{Tables, view}
 use Rattle.model.specs.Device.{Flash, flash, EraseSeg, State, state, Out, out, finish, behind, blanked, formatFrom}
 use Rattle.model.specs.Checkpoint.{reasonOf}
 use Rattle.model.specs.Entry.{Recorder, recorder, Lent, lent, Outcome, outcome, unless, guarded, flashFits, formatting, opening, read, encoding, restoring}
 
 -- an outcome with h done to what is left
 abbrev pub over : (Lent → Lent) → Outcome → Outcome
