@@ -233,8 +233,8 @@ static void queue_again(struct recorder *r)
     }
 }
 
-/* One collection that no cut can hurt: its segment is drained by writes of no bytes, a checkpoint that names none of its pages is
- * stored, and only then is it erased. Answers 0, or what refused. */
+/* One collection, of a queue that is not empty, in the order that keeps every stored checkpoint good: its segment is drained by writes of
+ * no bytes, a checkpoint that names none of its pages is stored, and only then is it erased. Answers 0, or what refused. */
 static int64_t make_room(struct recorder *r)
 {
     static const uint8_t nothing[1];

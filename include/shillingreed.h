@@ -57,6 +57,10 @@ enum shr_reason {
  *   used n*p   bytes n*p*s   marks n*p   counts n words   bad n
  *   scratch, all zero before and after: page s   seen n + p   order n words   taken n*p
  * and at least: out `length`, xs `len`, buffer 44 + 4e + 4n.
+ *
+ * Page k of segment g lies at place g*p + k: its bytes are bytes[(g*p + k)*s] and the s - 1 after it, its mark is marks[g*p + k], its use
+ * mark used[g*p + k]. Its address, by which the map names it, is another number, g * 2^w + k.
+ * A sector is a byte position: logical page sector / s, offset sector mod s. A read or a write stays inside that one logical page.
  */
 
 /* Erases every segment from 0 up as far as the fuse reaches and sets its count to 0. Answers 0. */
@@ -68,13 +72,14 @@ int64_t shr_format(size_t n, size_t p, size_t s, size_t w, size_t e, size_t limi
 int64_t shr_open(size_t n, size_t p, size_t s, size_t w, size_t e, size_t limit,
                  uint32_t *tab, size_t tab_len, uint8_t *used, size_t used_len);
 
-/* Reads `length` bytes at a sector, which is a byte position, inside one logical page. Answers the length. */
+/* Reads `length` bytes at a sector, a byte position, inside one logical page. Answers the length. */
 int64_t shr_read(size_t n, size_t p, size_t s, size_t w, size_t e, size_t limit,
                  size_t sector, size_t length,
                  const uint32_t *tab, size_t tab_len, const uint8_t *used, size_t used_len,
                  const uint8_t *bytes, size_t bytes_len, uint8_t *out, size_t out_len, uint8_t *seen, size_t seen_len);
 
-/* Writes `len` bytes at a sector, inside one logical page; the page's other bytes stay. Spends one page. Answers the length. */
+/* Writes `len` bytes at a sector, a byte position, inside one logical page. The page's other bytes stay; at its first write they become
+ * zero (and not 255). Spends one page. Answers the length. */
 int64_t shr_write(size_t n, size_t p, size_t s, size_t w, size_t e, size_t limit,
                   size_t sector, size_t len, const uint8_t *xs, size_t xs_len, const uint8_t *bad, size_t bad_len,
                   uint32_t *tab, size_t tab_len, uint8_t *used, size_t used_len,
@@ -130,14 +135,15 @@ uint32_t shr_crc32(const uint8_t *xs, size_t xs_len);
 
 /*
  * From here on conveniences, in C, beside the library: a unit's memory in one struct, passed part by part.
- * They test nothing; the calls behind them test everything, the lengths in the struct too.
+ * They test nothing; the calls behind them test everything, the lengths in the struct too. The looks into the tables, at the end, bear
+ * any geometry, words and index.
  */
 
 struct shr_geometry {
     size_t n;     /* segments */
     size_t p;     /* pages in each */
     size_t s;     /* bytes in each page */
-    size_t w;     /* address width: page k of segment g has the address g * 2^w + k */
+    size_t w;     /* address width: page k of segment g has the address g * 2^w + k, and lies at place g * p + k */
     size_t e;     /* map entries: logical pages */
     size_t limit; /* erases that a segment bears */
 };
@@ -290,116 +296,131 @@ static inline int64_t shr_unit_lay(const struct shr_geometry *geo, struct shr_un
     return 0;
 }
 
-/* A look into the tables of a unit whose tab has its size; g < n, l < e, i below the list's or the queue's length. */
+/*
+ * A look into the tables, whatever they hold, with any geometry and any index: no word is read outside tab, nor a mark outside bad, by the
+ * lengths in the struct. What is not there (an index out of range; anything, where tab has not the geometry's size) is SHR_EMPTY where it
+ * would name a page or a segment, and 0 where it would count. Lengths are at most p and n. Any other word is answered as it stands, for
+ * these do not test soundness: a read, write, collection or encoding does.
+ */
+
+/* Word i of the `len` that begin at `from`, or `otherwise`. With tab of its size the geometry is good, and no sum below wraps. */
+static inline uint32_t shr_word_(const struct shr_geometry *geo, const struct shr_unit *u, size_t from, size_t i, size_t len,
+                                 uint32_t otherwise)
+{
+    return i < len && u->tab.len > 0 && u->tab.len == shr_tab_words(SHR_GEO_(geo)) ? u->tab.at[from + i] : otherwise;
+}
 
 /* The address that logical page l is mapped to, or SHR_EMPTY. */
 static inline uint32_t shr_unit_map(const struct shr_geometry *geo, const struct shr_unit *u, size_t l)
 {
-    (void)geo;
-    return u->tab.at[l];
+    return shr_word_(geo, u, 0, l, geo->e, SHR_EMPTY);
 }
 
-/* The segment and the page in it that an address names. */
+/* The segment and the page in it that an address names: g and k of its place g*p + k. Without such a segment n, without such a page p. */
 static inline size_t shr_segment_of(const struct shr_geometry *geo, uint32_t address)
 {
-    return (size_t)address >> geo->w;
+    return geo->w <= 16 && address >> geo->w < geo->n ? address >> geo->w : geo->n;
 }
 
 static inline size_t shr_page_of(const struct shr_geometry *geo, uint32_t address)
 {
-    return (size_t)address & (((size_t)1 << geo->w) - 1);
+    uint32_t page = geo->w <= 16 ? address & (((uint32_t)1 << geo->w) - 1) : SHR_EMPTY;
+    return page < geo->p ? page : geo->p;
 }
 
 /* Free pages of segment g. */
 static inline uint32_t shr_unit_free(const struct shr_geometry *geo, const struct shr_unit *u, size_t g)
 {
-    return u->tab.at[geo->e + g];
+    return shr_word_(geo, u, geo->e, g, geo->n, 0);
 }
 
 /* Valid count of segment g: its mapped pages, and pages spent by a refused programming. */
 static inline uint32_t shr_unit_valid(const struct shr_geometry *geo, const struct shr_unit *u, size_t g)
 {
-    return u->tab.at[geo->e + geo->n + g];
+    return shr_word_(geo, u, geo->e + geo->n, g, geo->n, 0);
 }
 
 /* How many logical pages are mapped into segment g, and the i-th of them. */
 static inline uint32_t shr_unit_listed(const struct shr_geometry *geo, const struct shr_unit *u, size_t g)
 {
-    return u->tab.at[geo->e + 2 * geo->n + g];
+    uint32_t len = shr_word_(geo, u, geo->e + 2 * geo->n, g, geo->n, 0);
+    return len <= geo->p ? len : (uint32_t)geo->p;
 }
 
 static inline uint32_t shr_unit_list(const struct shr_geometry *geo, const struct shr_unit *u, size_t g, size_t i)
 {
-    return u->tab.at[geo->e + 5 * geo->n + 2 + g * geo->p + i];
+    return shr_word_(geo, u, geo->e + 5 * geo->n + 2 + g * geo->p, i, shr_unit_listed(geo, u, g), SHR_EMPTY);
 }
 
 /* How many segments are queued for collection, and the i-th of them. */
 static inline uint32_t shr_unit_queued(const struct shr_geometry *geo, const struct shr_unit *u)
 {
-    return u->tab.at[geo->e + 5 * geo->n + 1];
+    uint32_t len = shr_word_(geo, u, geo->e + 5 * geo->n + 1, 0, 1, 0);
+    return len <= geo->n ? len : (uint32_t)geo->n;
 }
 
 static inline uint32_t shr_unit_queue(const struct shr_geometry *geo, const struct shr_unit *u, size_t i)
 {
-    return u->tab.at[geo->e + 3 * geo->n + i];
+    return shr_word_(geo, u, geo->e + 3 * geo->n, i, shr_unit_queued(geo, u), SHR_EMPTY);
 }
 
 /* The flag of segment g: queued, or taken off the queue by a collection that was refused. */
 static inline uint32_t shr_unit_flag(const struct shr_geometry *geo, const struct shr_unit *u, size_t g)
 {
-    return u->tab.at[geo->e + 4 * geo->n + g];
+    return shr_word_(geo, u, geo->e + 4 * geo->n, g, geo->n, 0);
 }
 
 /* The allocation segment, where the search for a free page begins. */
 static inline uint32_t shr_unit_alloc(const struct shr_geometry *geo, const struct shr_unit *u)
 {
-    return u->tab.at[geo->e + 5 * geo->n];
+    return shr_word_(geo, u, geo->e + 5 * geo->n, 0, 1, SHR_EMPTY);
 }
 
-/* The segment that the next collection takes, the first with the fewest valid pages; n when the queue is empty. */
+/* The segment that the next collection takes, the first with the fewest valid pages; n when the queue is empty. Of damaged tables the
+ * queued numbers from n up are passed over. */
 static inline size_t shr_unit_victim(const struct shr_geometry *geo, const struct shr_unit *u)
 {
-    size_t i, best = geo->n;
-    for (i = 0; i < shr_unit_queued(geo, u); i++) {
+    size_t i, queued = shr_unit_queued(geo, u), best = geo->n;
+    for (i = 0; i < queued; i++) {
         size_t g = shr_unit_queue(geo, u, i);
-        if (best == geo->n || shr_unit_valid(geo, u, g) < shr_unit_valid(geo, u, best)) best = g;
+        if (g < geo->n && (best == geo->n || shr_unit_valid(geo, u, g) < shr_unit_valid(geo, u, best))) best = g;
     }
     return best;
 }
 
-/* Free pages outside the bad list: what writes and copies can take. */
+/* Free pages outside the bad list: what writes and copies can take. A segment past the bad list's end is not counted. */
 static inline size_t shr_unit_room(const struct shr_geometry *geo, const struct shr_unit *u)
 {
     size_t g, room = 0;
-    for (g = 0; g < geo->n; g++) room += u->bad.at[g] == 0 ? shr_unit_free(geo, u, g) : 0;
+    for (g = 0; g < geo->n && g < u->bad.len; g++) room += u->bad.at[g] == 0 ? shr_unit_free(geo, u, g) : 0;
     return room;
 }
 
 /* A refused answer in words. Use the second for the answer of a restore. */
 static inline const char *shr_refusal_text(int64_t answer)
 {
-    switch (-answer) {
-    case SHR_DEVICE: return "the device refused";
-    case SHR_NO_ROOM: return "no room";
-    case SHR_WRONG: return "wrong geometry, size, sector or length";
-    case SHR_UNMAPPED: return "page never written";
-    case SHR_UNSOUND: return "tables not sound";
+    switch (answer) {
+    case -SHR_DEVICE: return "the device refused";
+    case -SHR_NO_ROOM: return "no room";
+    case -SHR_WRONG: return "wrong geometry, size, sector or length";
+    case -SHR_UNMAPPED: return "page never written";
+    case -SHR_UNSOUND: return "tables not sound";
     default: return answer < 0 ? "no refusal of this library" : "not refused";
     }
 }
 
 static inline const char *shr_reason_text(int64_t answer)
 {
-    switch (-answer) {
-    case SHR_REASON_SHORT: return "file under 44 bytes";
-    case SHR_REASON_MAGIC: return "file does not begin as a checkpoint does";
-    case SHR_REASON_VERSION: return "another version";
-    case SHR_REASON_SHAPE: return "another number of segments or pages";
-    case SHR_REASON_ENTRIES: return "another number of map entries";
-    case SHR_REASON_LENGTH: return "wrong length";
-    case SHR_REASON_CRC: return "checksum does not fit";
-    case SHR_REASON_ALLOC: return "allocation segment out of range";
-    case SHR_REASON_FREE: return "free count out of range";
+    switch (answer) {
+    case -SHR_REASON_SHORT: return "file under 44 bytes";
+    case -SHR_REASON_MAGIC: return "file does not begin as a checkpoint does";
+    case -SHR_REASON_VERSION: return "another version";
+    case -SHR_REASON_SHAPE: return "another number of segments or pages";
+    case -SHR_REASON_ENTRIES: return "another number of map entries";
+    case -SHR_REASON_LENGTH: return "wrong length";
+    case -SHR_REASON_CRC: return "checksum does not fit";
+    case -SHR_REASON_ALLOC: return "allocation segment out of range";
+    case -SHR_REASON_FREE: return "free count out of range";
     default: return shr_refusal_text(answer);
     }
 }

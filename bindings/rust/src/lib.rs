@@ -3,6 +3,12 @@
 //! [`Ftl`] borrows all memory that the library is lent and keeps nothing of its own; with the feature `std` (the default) [`OwnedFtl`]
 //! owns it. Every call answers a count or a [`Refusal`]; what a refusal leaves behind is said in docs/USING.md.
 //!
+//! A sector is a byte position: logical page `sector / s`, offset `sector % s`. A read or a write stays inside that one logical page. The
+//! first write to a page leaves zeros (and not 255) where it lays no bytes.
+//!
+//! Page k of segment g lies at place g·p + k: its bytes are `bytes[(g * p + k) * s..][..s]`, its mark is `marks[g * p + k]`. Its address, by
+//! which the map names it, is another number, g·2^w + k; [`View::place`] answers g and k.
+//!
 //! ```
 //! use shillingreed::{Geometry, OwnedFtl, Refusal};
 //!
@@ -16,6 +22,11 @@
 //! let mut out = [0; 4];
 //! assert_eq!(unit.read(5, &mut out), Ok(4));
 //! assert_eq!(&out, b"1.32");
+//! let mut page = [255; 16];
+//! assert_eq!(unit.read(0, &mut page), Ok(16));
+//! assert_eq!(&page, b"\0\0\0\0\x001.32\0\0\0\0\0\0\0");
+//! let (g, k) = unit.view()?.place(0).expect("page 0 was written");
+//! assert_eq!(&unit.bytes[(g * geo.p + k) * geo.s..][..geo.s], &page);
 //! assert_eq!(unit.read(16, &mut out), Err(Refusal::Unmapped));
 //! # Ok::<(), Refusal>(())
 //! ```
@@ -47,7 +58,7 @@ pub struct Geometry {
     pub p: usize,
     /// Bytes in each page, 1 to 16,384.
     pub s: usize,
-    /// Address width, 0 to 16, with p at most 2^w.
+    /// Address width, 0 to 16, with p at most 2^w: page k of segment g has the address g·2^w + k, and lies at place g·p + k.
     pub w: usize,
     /// Map entries (logical pages), 1 to n·p.
     pub e: usize,
@@ -112,15 +123,15 @@ pub fn crc32(xs: &[u8]) -> u32 {
 pub struct Tables<'a> {
     /// Map, free, valid, list lengths, queue, flags, allocation segment, queue length, lists.
     pub tab: &'a mut [u32],
-    /// Use marks.
+    /// Use marks: that of page k of segment g at g·p + k.
     pub used: &'a mut [u8],
 }
 
 /// The flash.
 pub struct Flash<'a> {
-    /// Every page's bytes.
+    /// Every page's bytes: those of page k of segment g are the s from (g·p + k)·s.
     pub bytes: &'a mut [u8],
-    /// Every page's programmed mark.
+    /// Every page's programmed mark: that of page k of segment g at g·p + k.
     pub marks: &'a mut [u8],
     /// Every segment's erase count.
     pub counts: &'a mut [u32],
@@ -181,7 +192,7 @@ impl Ftl<'_> {
         })
     }
 
-    /// Fills `out` from a sector, which is a byte position, inside one logical page. Answers its length.
+    /// Fills `out` from a sector, a byte position, inside one logical page. Answers its length.
     pub fn read(&mut self, sector: usize, out: &mut [u8]) -> Result<usize, Refusal> {
         let (g, t, f, c) = (self.geo, &self.tables, &self.flash, &mut self.scratch);
         answer(unsafe {
@@ -194,7 +205,8 @@ impl Ftl<'_> {
         })
     }
 
-    /// Writes `data` at a sector, inside one logical page; the page's other bytes stay. Spends one page. Answers the length.
+    /// Writes `data` at a sector, a byte position, inside one logical page. The page's other bytes stay; at its first write they become
+    /// zero (and not 255). Spends one page. Answers the length.
     pub fn write(&mut self, sector: usize, data: &[u8]) -> Result<usize, Refusal> {
         let (g, t, f, c) = (self.geo, &mut self.tables, &mut self.flash, &mut self.scratch);
         answer(unsafe {
@@ -277,7 +289,7 @@ impl Ftl<'_> {
         })
     }
 
-    /// A look into the tables, or `Wrong` where they do not have their size.
+    /// A look into the tables, whatever they hold; or `Wrong` where they do not have their size.
     pub fn view(&self) -> Result<View<'_>, Refusal> {
         View::new(self.geo, self.tables.tab)
     }

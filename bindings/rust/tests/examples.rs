@@ -85,8 +85,8 @@ fn e6_full_with_a_dead_page_and_not_queued() {
     let mut unit = fresh(Geometry { p: 3, w: 2, ..A });
     pages(&mut unit, &[0, 0, 1]);
     let view = unit.view().unwrap();
-    assert_eq!((view.free(0), view.valid(0), view.list(0)), (0, 2, &[0, 1][..]));
-    assert!(view.queue().is_empty() && !view.flag(0));
+    assert_eq!((view.free(0), view.valid(0), view.list(0)), (Some(0), Some(2), &[0, 1][..]));
+    assert_eq!((view.queue().len(), view.flag(0)), (0, Some(false)));
 }
 
 #[test]
@@ -96,7 +96,7 @@ fn e7_equal_valid_counts_keep_the_queues_order() {
     assert_eq!(unit.collect(), Ok(0));
     pages(&mut unit, &[2, 1]);
     let view = unit.view().unwrap();
-    assert_eq!((view.queue(), view.valid(2), view.valid(1)), (&[2, 1][..], 1, 1));
+    assert_eq!((view.queue(), view.valid(2), view.valid(1)), (&[2, 1][..], Some(1), Some(1)));
     assert_eq!(view.victim(), Some(2));
     let before = unit.counts.clone();
     assert_eq!(unit.collect(), Ok(0));

@@ -98,7 +98,8 @@ fn a_refused_programming_spends_its_page_and_the_next_write_goes_on() {
     let mut unit = fresh();
     unit.marks[0] = 7;
     assert_eq!(unit.write(0, b"x"), Err(Refusal::Device));
-    assert_eq!((unit.view().unwrap().place(0), unit.view().unwrap().free(0), unit.view().unwrap().valid(0)), (None, 3, 1));
+    let view = unit.view().unwrap();
+    assert_eq!((view.place(0), view.free(0), view.valid(0)), (None, Some(3), Some(1)));
     assert_eq!(unit.write(0, b"x"), Ok(1));
     assert_eq!(unit.view().unwrap().place(0), Some((0, 1)));
     assert_eq!((unit.marks[0], unit.fuse), (7, ENDLESS));
@@ -114,7 +115,7 @@ fn a_worn_segment_leaves_the_queue() {
     assert_eq!(unit.view().unwrap().queue(), [0]);
     assert_eq!(unit.collect(), Err(Refusal::Device));
     let view = unit.view().unwrap();
-    assert_eq!((view.queue().len(), view.flag(0), view.free(0), view.list(0).len()), (0, true, 0, 0));
+    assert_eq!((view.queue().len(), view.flag(0), view.free(0), view.list(0).len()), (0, Some(true), Some(0), 0));
 }
 
 #[test]

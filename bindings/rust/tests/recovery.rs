@@ -39,7 +39,7 @@ fn refused_at_a_copy() -> OwnedFtl {
     unit.fuse = ENDLESS;
     assert_eq!(contents(&mut unit), held);
     let view = unit.view().unwrap();
-    assert_eq!((view.queue().len(), view.flag(0), view.list(0)), (0, true, &[1][..]));
+    assert_eq!((view.queue().len(), view.flag(0), view.list(0)), (0, Some(true), &[1][..]));
     unit
 }
 
@@ -52,11 +52,11 @@ fn a_refused_copy_is_made_good_by_calls() {
     let held = contents(&mut unit);
     let file = unit.checkpoint().unwrap();
     assert_eq!(unit.restore(&file), Ok(0));
-    assert!(!unit.view().unwrap().flag(0));
+    assert_eq!(unit.view().unwrap().flag(0), Some(false));
     unit.write(4, &[]).unwrap(); // page 1 is moved out of segment 0
     assert_eq!(unit.view().unwrap().queue(), [0]);
     assert_eq!(unit.collect(), Ok(0));
-    assert_eq!((unit.view().unwrap().free(0), contents(&mut unit)), (3, held));
+    assert_eq!((unit.view().unwrap().free(0), contents(&mut unit)), (Some(3), held));
 }
 
 #[test]
@@ -65,7 +65,7 @@ fn a_refused_copy_is_made_good_by_hand() {
     let held = contents(&mut unit);
     queue_by_hand(&mut unit, 0);
     assert_eq!(unit.collect(), Ok(0));
-    assert_eq!((unit.view().unwrap().free(0), contents(&mut unit)), (3, held));
+    assert_eq!((unit.view().unwrap().free(0), contents(&mut unit)), (Some(3), held));
 }
 
 #[test]
@@ -87,7 +87,7 @@ fn a_full_segment_without_pages_is_queued_by_hand_alone() {
     queue_by_hand(&mut unit, 0);
     assert_eq!(unit.collect(), Ok(0));
     assert_eq!(unit.collect(), Ok(0));
-    assert_eq!((unit.view().unwrap().free(0), unit.view().unwrap().free(1)), (3, 3));
+    assert_eq!((unit.view().unwrap().free(0), unit.view().unwrap().free(1)), (Some(3), Some(3)));
 }
 
 #[test]
@@ -131,7 +131,7 @@ fn a_drained_segment_is_taken_and_only_erased() {
         let before = unit.counts[g];
         unit.fuse = 5;
         assert_eq!(unit.collect(), Ok(0));
-        assert_eq!((unit.fuse, unit.counts[g], unit.view().unwrap().free(g)), (4, before + 1, 3));
+        assert_eq!((unit.fuse, unit.counts[g], unit.view().unwrap().free(g)), (4, before + 1, Some(3)));
         drained += 1;
     }
     assert!(drained > 500, "{drained}");
