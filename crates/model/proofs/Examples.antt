@@ -1,5 +1,5 @@
--- The marked examples of document 01, its trace, and what its traps would get wrong: one table. Each row's calls are run through the public
--- entries, and one equation, by computation, says what every call of every row answers and all that is left behind.
+-- The marked examples of document 01, its trace, its limits, and what its traps would get wrong: one table. Each row's calls are run through the
+-- public entries, and one equation, by computation, says what every call of every row answers and all that is left behind.
 use Prim.Native.Nat.{ℕ, _+_, _*_, _-_, _%_}
 use mathlib.Core.Path.{_≡_, refl}
 use mathlib.Core.List.{List, [], _∷_, _++_, map}
@@ -7,7 +7,7 @@ use lib.IntN.{ℤ, pos, negsuc}
 use lib.ListN.{getD, set, length, replicate}
 use Rattle.crc32.specs.Crc32.{plus, add, among, powers, low, remainder, bitsOf, bits, digit, number as valueOf, dividend, crc32}
 use Rattle.model.specs.Lists.{without, pushFront, insertBy, sortBy, splice, total, occ, all, every, blank, upTo, zeros}
-use Rattle.model.specs.Numbers.{Geometry, number, good?, endless}
+use Rattle.model.specs.Numbers.{Geometry, geometry, number, good?, endless}
 use Rattle.model.specs.Tables.{Tables, tables, tabWords, pages, view, packed}
 use Rattle.model.specs.Sound.{names, soundb}
 use Rattle.model.specs.Device.{Flash, flash, burn, mayProgram, mayErase, formatFrom}
@@ -15,7 +15,7 @@ use Rattle.model.specs.PageMap.{clearFrom, findFrom, find, invalidate, f
 use Rattle.model.specs.PageWrite.{oldPage, writeAt, writePage}
 use Rattle.model.specs.PageGc.{sorted, finishOf, drain, collectOf, collect, collectMore, collectList, collectThreshold}
 use Rattle.model.specs.Checkpoint.{usedBy, word, long, words, wordAt, longAt, wordsAt, head, file, reasonOf, welcome, settleAll, restored}
-use Rattle.model.specs.Entry.{Recorder, recorder, unless, guarded, clean, formatting, opening, read, encoding, restoring, write}
+use Rattle.model.specs.Entry.{Recorder, recorder, noFlash, unless, guarded, clean, formatting, opening, read, encoding, restoring, write}
 use Rattle.model.specs.Entry.{collection, listCollection, thresholdCollection}
 use Rattle.model.specs.History.{Call, Format, Open, Read, Write, Collect, CollectList, CollectThreshold, Encode, Restore, run}
 
@@ -91,16 +91,22 @@ shows m b = record { answer = pos m; buffer = b }
 abbrev keeps : ℕ → List ℕ → Reply
 keeps c b = record { answer = negsuc (c - 1); buffer = b }
 
--- The calls, each with scratch of the right sizes: bytes put at a sector, a whole page of bytes x, bytes got, the three collections, a checkpoint
--- into 66 bytes of 9, a restore.
+-- The calls, each with scratch of the right sizes: len bytes of d put at a sector, all of d, a whole page of bytes x; bytes got into a buffer, or
+-- into zeros; the three collections; a checkpoint into a buffer, or into 66 bytes of 9; a restore.
+abbrev put-of : ℕ → ℕ → List ℕ → Geometry → Call
+put-of len sector d G = Write sector len d (zeros (G .s) ∷ zeros (G .n + G .p) ∷ [])
+
 abbrev put : ℕ → List ℕ → Geometry → Call
-put sector d G = Write sector (length d) d (zeros (G .s) ∷ zeros (G .n + G .p) ∷ [])
+put sector d G = put-of (length d) sector d G
 
 abbrev page : ℕ → ℕ → Geometry → Call
 page l x G = put (l * G .s) (replicate (G .s) x) G
 
+abbrev get-into : List ℕ → ℕ → ℕ → Geometry → Call
+get-into b sector len G = Read sector len b (zeros (G .n + G .p) ∷ [])
+
 abbrev get : ℕ → ℕ → Geometry → Call
-get sector len G = Read sector len (zeros len) (zeros (G .n + G .p) ∷ [])
+get sector len G = get-into (zeros len) sector len G
 
 abbrev scratch : Geometry → List (List ℕ)
 scratch G = zeros (G .s) ∷ zeros (G .n + G .p) ∷ zeros (G .n) ∷ []
@@ -114,8 +120,11 @@ gcList m G = CollectList m (scratch G)
 abbrev gcBelow : ℕ → ℕ → Geometry → Call
 gcBelow threshold m G = CollectThreshold threshold m (scratch G)
 
+abbrev save-into : List ℕ → Geometry → Call
+save-into b G = Encode b (zeros (G .n + G .p) ∷ [])
+
 abbrev save : Geometry → Call
-save G = Encode (replicate 66 9) (zeros (G .n + G .p) ∷ [])
+save G = save-into (replicate 66 9) G
 
 abbrev load : (Geometry → List ℕ) → Geometry → Call
 load b G = Restore (b G) (zeros (pages G) ∷ [])
@@ -126,23 +135,22 @@ formats G = Format
 abbrev opens : Geometry → Call
 opens G = Open
 
--- the file of this allocation segment, map and free counts, and the same with its CRC spoiled
+-- the file of this allocation segment, map and free counts; the same with its CRC spoiled; that of a fresh device
 abbrev saved : ℕ → List ℕ → List ℕ → Geometry → List ℕ
 saved alloc entries free G = file G alloc (entries ++ free)
 
 abbrev spoiled : ℕ → List ℕ → List ℕ → Geometry → List ℕ
 spoiled alloc entries free G = let b = saved alloc entries free G in set b 40 ((getD b 40 0 + 1) % 256)
 
--- "Device A: n 2, p 2, s 4, w 1, e 3, erase limit 5", and with others of n, p, w and the limit
-abbrev like-A : (n p w limit : ℕ) → Geometry
-like-A n p w limit = record { n = n; p = p; s = 4; w = w; e = 3; limit = limit }
-
-abbrev like : (n p w e limit : ℕ) → Geometry
-like n p w e limit = record { n = n; p = p; s = 4; w = w; e = e; limit = limit }
-
--- a file of a device whose map is empty and whose pages are all free
 abbrev blank-file : Geometry → List ℕ
-blank-file G = file G 0 (replicate (G .e) none ++ replicate (G .n) (G .p))
+blank-file G = saved 0 (replicate (G .e) none) (replicate (G .n) (G .p)) G
+
+-- "Device A: n 2, p 2, s 4, w 1, e 3, erase limit 5", with others of n, p, w and the limit, and of e too
+abbrev like : (n p w e limit : ℕ) → Geometry
+like n p w e limit = geometry n p 4 w e limit
+
+abbrev like-A : (n p w limit : ℕ) → Geometry
+like-A n p w limit = like n p w 3 limit
 
 abbrev A : Geometry
 A = like-A 2 2 1 5
@@ -150,7 +158,14 @@ A = like-A 2 2 1 5
 abbrev A3 : Geometry
 A3 = like-A 3 2 1 5
 
--- memory that holds these tables and this flash; memory all zero, with an endless fuse
+-- devices whose p is below 2^w, with two segments and with three
+abbrev B : Geometry
+B = like 2 3 2 4 5
+
+abbrev B3 : Geometry
+B3 = like 3 3 2 4 5
+
+-- memory that holds these tables and this flash; memory all zero, with an endless fuse; zeroed tables, and erased flash with these marks and fuse
 abbrev mem : Tables → Flash → Recorder
 mem t f = recorder (packed t) (t .used) f
 
@@ -161,19 +176,33 @@ zeroed G =
     (zeros (pages G))
     (flash (zeros (pages G * G .s)) (zeros (pages G)) (zeros (G .n)) endless)
 
--- a row; one of a device "fresh on formatted flash"
+abbrev over : Geometry → List ℕ → ℕ → Recorder
+over G marks fuse = recorder (zeros (tabWords G)) (zeros (pages G)) (flash (replicate (pages G * G .s) 255) marks (zeros (G .n)) fuse)
+
+-- a row; one of a device "fresh on formatted flash"; one with this bad list
 abbrev row : Geometry → Recorder → List (Geometry → Call) → List Reply → Recorder → Row
 row G r cs rs end = record { device = G; bad = zeros (G .n); start = r; calls = cs; is = record { replies = rs; left = end } }
+
+abbrev new : Geometry → List (Geometry → Call) → List Reply → Recorder → Row
+new G cs rs end = row G (zeroed G) (formats ∷ opens ∷ cs) (moved 0 ∷ moved 0 ∷ rs) end
 
 abbrev with-bad : List ℕ → Row → Row
 with-bad b r = record { device = r .device; bad = b; start = r .start; calls = r .calls; is = r .is }
 
--- zeroed tables over erased flash with these marks and this fuse
-abbrev over : Geometry → List ℕ → ℕ → Recorder
-over G marks fuse = recorder (zeros (tabWords G)) (zeros (pages G)) (flash (replicate (pages G * G .s) 255) marks (zeros (G .n)) fuse)
+-- opening from zeroed tables of the right sizes, where the geometry is right and where it is wrong; no flash is lent
+abbrev admits : Geometry → Row
+admits G =
+    row G (recorder (zeros (tabWords G)) (zeros (pages G)) noFlash)
+    (opens ∷ [])
+    (moved 0 ∷ [])
+    (mem
+    (tables (replicate (G .e) none) (replicate (G .n) (G .p)) (zeros (G .n)) (zeros (pages G)) (zeros (pages G)) (zeros (G .n)) (zeros (G .n)) (zeros (G .n)) 0 0)
+    noFlash)
 
-abbrev new : Geometry → List (Geometry → Call) → List Reply → Recorder → Row
-new G cs rs end = row G (zeroed G) (formats ∷ opens ∷ cs) (moved 0 ∷ moved 0 ∷ rs) end
+abbrev bars : Geometry → Row
+bars G =
+    let r = recorder (zeros (tabWords G)) (zeros (pages G)) noFlash in
+    row G r (opens ∷ []) (refused 22 ∷ []) r
 
 -- ---- memory that more than one row shows
 -- Tables are written as map, free counts, valid counts, use marks, lists, their lengths, queue, flags, allocation segment, length of the queue;
@@ -354,53 +383,56 @@ table =
     (formats ∷ [])
     (moved 0 ∷ [])
     (mem (litter 1) (flash (fill (four 255 255 7 7)) (four 0 0 1 1) (two 0 4) 0))
-    -- a mark of 2 on page 0.2 refuses it, and only it: the page is spent; the valid counts 1, 2, 1 with list lengths 0, 1, 2 sort the queue; no room is 14
-    ∷ row (like 3 3 2 4 5) (over (like 3 3 2 4 5) (three 0 0 2 ++ six 0 0 0 0 0 0) endless)
+    -- "A nonzero programmed mark counts as set": 2 on page 0.2 gets 5, "the page found is spent"; "stably sorted by valid count": queue 2, 1, 0,
+    -- where the valid counts are 2, 1, 1 and the lists' lengths 2, 1, 0, has victim 1; no room is 14 for a copy and for a write
+    ∷ row B3 (over B3 (three 0 0 2 ++ six 0 0 0 0 0 0) endless)
     (opens ∷ page 0 2 ∷ page 0 3 ∷ page 0 4 ∷ gc ∷ page 0 6 ∷ page 3 7 ∷ page 3 8 ∷ page 2 9 ∷ page 3 10 ∷ page 2 11 ∷ gc ∷ page 3 13 ∷ [])
     (moved 0 ∷ moved 4 ∷ moved 4 ∷ refused 5 ∷ moved 0 ∷ moved 4 ∷ moved 4 ∷ moved 4 ∷ moved 4 ∷ moved 4 ∷ moved 4 ∷ refused 14 ∷ refused 14 ∷ [])
     (mem
     (tables (four 4 none 10 9) (three 0 0 0) (three 1 1 2) (replicate 9 1) (six 0 0 0 0 0 0 ++ three 3 2 0) (three 0 1 2) (three 0 2 0) (three 1 1 1) 2 2)
     (flash (fill (three 2 3 255 ++ six 6 7 8 9 10 11)) (six 1 1 2 1 1 1 ++ three 1 1 1) (three 0 0 0) endless))
-    -- a bad segment, marked 9, is passed; of two listed pages the last is copied first
-    ∷ with-bad (three 0 9 0) (new (like 3 3 2 4 5)
+    -- "passing bad segments": one marked 9; of a victim's two pages "its last logical page" is copied first, then the other; addresses g·2^w + k
+    ∷ with-bad (three 0 9 0)
+    (new B3
     (page 0 2 ∷ page 2 3 ∷ page 1 4 ∷ page 0 5 ∷ gc ∷ page 1 9 ∷ [])
     (moved 4 ∷ moved 4 ∷ moved 4 ∷ moved 4 ∷ moved 0 ∷ moved 4 ∷ [])
     (mem
     (tables (four 8 0 10 none) (three 2 3 0) (three 1 0 2) (three 1 0 0 ++ six 0 0 0 1 1 1) (six 1 0 0 0 0 0 ++ three 0 2 0) (three 1 0 2) (three 2 0 0) (three 0 0 1) 0 1)
     (flash (fill (three 9 255 255 ++ six 255 255 255 5 4 3)) (six 1 0 0 0 0 0 ++ three 1 1 1) (three 1 0 0) endless)))
-    -- a fuse of 4: a refused programming leaves it; a copy's 5 is 14, from the list too
-    ∷ row (like 2 3 2 4 5) (over (like 2 3 2 4 5) (six 0 0 2 0 0 0) 4)
+    -- fuse 4: "Each one done .. lowers" it, one refused does not; "a copy's 5 spends its page" and is the collection's 14, from the list too
+    ∷ row B (over B (six 0 0 2 0 0 0) 4)
     (opens ∷ page 3 2 ∷ page 1 3 ∷ page 3 9 ∷ page 1 10 ∷ page 0 11 ∷ gcList 3 ∷ [])
     (moved 0 ∷ moved 4 ∷ moved 4 ∷ refused 5 ∷ moved 4 ∷ moved 4 ∷ refused 14 ∷ [])
     (mem
     (tables (four 5 4 none 0) (two 0 0) (two 2 3) (six 1 1 1 1 1 1) (six 3 0 0 1 0 0) (two 1 2) (two 0 0) (two 1 0) 1 0)
     (flash (fill (six 2 3 255 10 11 255)) (six 1 1 2 1 1 0) (two 0 0) 0))
-    -- total free counts bad segments
-    ∷ with-bad (two 9 0) (new (like 2 2 2 2 5)
+    -- "total free (all segments)", the bad one too
+    ∷ with-bad (two 9 0)
+    (new (like 2 2 2 2 5)
     (page 0 1 ∷ page 0 2 ∷ gcBelow 0 2 ∷ gcBelow 1 2 ∷ [])
     (moved 4 ∷ moved 4 ∷ moved 0 ∷ moved 0 ∷ [])
     (mem
     (tables (two 5 none) (two 2 0) (two 0 1) (four 0 0 1 1) (four 0 0 0 0) (two 0 1) (two 1 0) (two 0 1) 1 1)
     (flash (fill (four 255 255 1 2)) (four 0 0 1 1) (two 0 0) endless)))
-    -- a record with a spent page, its valid count above its list's length, is reset to 0
-    ∷ row (like 2 3 2 2 5) (over (like 2 3 2 2 5) (six 0 2 0 0 0 0) endless)
+    -- "reset the record": the valid count is 0 again, though a spent page had it above the list's length
+    ∷ row B (over B (six 0 2 0 0 0 0) endless)
     (opens ∷ page 0 4 ∷ page 0 5 ∷ page 0 6 ∷ gcList 3 ∷ [])
     (moved 0 ∷ moved 4 ∷ refused 5 ∷ moved 4 ∷ moved 0 ∷ [])
     (mem
-    (tables (two 4 none) (two 3 2) (two 0 1) (six 0 0 0 1 0 0) (six 0 0 0 0 0 0) (two 0 1) (two 0 0) (two 0 0) 1 0)
+    (tables (four 4 none none none) (two 3 2) (two 0 1) (six 0 0 0 1 0 0) (six 0 0 0 0 0 0) (two 0 1) (two 0 0) (two 0 0) 1 0)
     (flash (fill (six 255 255 255 6 255 255)) (six 0 0 0 1 0 0) (two 1 0) endless))
-    -- a read at an offset, into a longer buffer; logical page e
+    -- "bytes at the offset of the mapped page"; "bytes of a read's buffer beyond the length stay"; logical page e gets 22
     ∷ new A
-    (put 0 (four 1 2 3 4) ∷ (λ G. Read 1 2 (four 9 9 9 9) (zeros (G .n + G .p) ∷ [])) ∷ get 12 1 ∷ [])
+    (put 0 (four 1 2 3 4) ∷ get-into (four 9 9 9 9) 1 2 ∷ get 12 1 ∷ [])
     (moved 4 ∷ shows 2 (four 2 3 9 9) ∷ keeps 22 (zeros 1) ∷ [])
     (mem
     (tables (three 0 none none) (two 1 2) (two 1 0) (four 1 0 0 0) (four 0 0 0 0) (two 1 0) (two 0 0) (two 0 0) 0 0)
     (flash (four 1 2 3 4 ++ fill (three 255 255 255)) (four 1 0 0 0) (two 0 0) endless))
-    -- reasons 1 to 6, each where the next holds too
+    -- "in this order": reasons 1 to 6, each where the next holds too
     ∷ new A
     (load (λ _. zeros 43)
     ∷ load (λ G. set (set (blank-file G) 0 0) 4 2)
-    ∷ load (λ G. set (blank-file (like 3 2 1 2 5)) 4 2)
+    ∷ load (λ _. set (blank-file (like 3 2 1 2 5)) 4 2)
     ∷ load (λ _. blank-file (like 3 2 1 2 5))
     ∷ load (λ _. blank-file (like 2 3 2 2 5))
     ∷ load (λ _. blank-file (like 2 2 1 2 5))
@@ -408,32 +440,47 @@ table =
     ∷ [])
     (refused 1 ∷ refused 2 ∷ refused 3 ∷ refused 4 ∷ refused 4 ∷ refused 5 ∷ refused 6 ∷ [])
     untouched
-    -- a restore over tables with a queue: two pages in one list, ascending; a full segment with dead pages: valid 0, not queued
+    -- "Lists are ascending, valid = list length, queue empty, flags clear": over tables with a queue; a full segment of dead pages
     ∷ new A3
     (page 0 1 ∷ page 0 2 ∷ load (saved 1 (three 3 2 none) (three 2 0 0)) ∷ [])
     (moved 4 ∷ moved 4 ∷ moved 0 ∷ [])
     (mem
     (tables (three 3 2 none) (three 2 0 0) (three 0 2 0) (six 0 0 1 1 1 1) (six 0 0 0 1 0 0) (three 0 2 0) (three 0 0 0) (three 0 0 0) 1 0)
     (flash (fill (six 1 2 255 255 255 255)) (six 1 1 0 0 0 0) (three 0 0 0) endless))
-    -- 117 comes before the logical page, for every entry that tests soundness
+    -- "Order: .. soundness, logical page, page overrun": 117 of every entry that tests soundness
     ∷ row A (mem (litter 1) (worn endless))
     (put 12 (9 ∷ []) ∷ gc ∷ gcList 1 ∷ gcBelow 0 1 ∷ save ∷ get 12 9 ∷ [])
     (refused 117 ∷ refused 117 ∷ refused 117 ∷ refused 117 ∷ keeps 117 (replicate 66 9) ∷ keeps 117 (zeros 9) ∷ [])
     (mem (litter 1) (worn endless))
-    -- formatting whatever the count: 5 is the limit; sizes: scratch that is not zero, data shorter than the length, data longer (the first two bytes are laid in)
+    -- "Formatting erases every segment, whatever its count": 5 is the limit; a wrong lent size: "scratch not all zero", data, a read's buffer and a
+    -- checkpoint's that are too short; of longer data two bytes are laid in
     ∷ row A (mem (litter 1) (flash (fill (four 7 7 7 7)) (four 1 1 1 1) (two 5 6) endless))
     (formats ∷ opens
     ∷ (λ G. Write 0 2 (two 7 8) ((1 ∷ zeros 3) ∷ zeros (G .n + G .p) ∷ []))
-    ∷ (λ G. Write 0 2 (7 ∷ []) (zeros (G .s) ∷ zeros (G .n + G .p) ∷ []))
-    ∷ (λ G. Write 0 2 (three 7 8 9) (zeros (G .s) ∷ zeros (G .n + G .p) ∷ []))
-    ∷ (λ G. Read 0 2 (7 ∷ []) (zeros (G .n + G .p) ∷ []))
-    ∷ (λ G. Encode (replicate 63 9) (zeros (G .n + G .p) ∷ []))
+    ∷ put-of 2 0 (7 ∷ [])
+    ∷ put-of 2 0 (three 7 8 9)
+    ∷ get-into (7 ∷ []) 0 2
+    ∷ save-into (replicate 63 9)
     ∷ [])
     (moved 0 ∷ moved 0 ∷ refused 22 ∷ refused 22 ∷ moved 2 ∷ keeps 22 (7 ∷ []) ∷ keeps 22 (replicate 63 9) ∷ [])
     (mem
     (tables (three 2 none none) (two 2 1) (two 0 1) (four 0 0 1 0) (four 0 0 0 0) (two 0 1) (two 0 0) (two 0 0) 1 0)
     (flash (fill (two 255 255) ++ four 7 8 0 0 ++ fill (255 ∷ [])) (four 0 0 1 0) (two 0 0) endless))
-    ∷ []
+    -- "n segments (1 to 65,535), p pages in each (1 to 1,024)", s, w, e and the limit: the least; the greatest but n; one more than each; s 0 and e 0
+    ∷ admits (geometry 1 1 1 0 1 0)
+    ∷ admits (geometry 1 2 16384 1 2 0xFFFFFFFF)
+    ∷ admits (geometry 1 1024 1 16 1 0)
+    ∷ map bars
+    (geometry 65536 1 1 0 1 0
+    ∷ geometry 1 1025 1 16 1 0
+    ∷ geometry 1 1 16385 0 1 0
+    ∷ geometry 1 1 1 17 1 0
+    ∷ geometry 1 2 1 0 1 0
+    ∷ geometry 1 1 1 0 2 0
+    ∷ geometry 1 1 1 0 1 0x100000000
+    ∷ geometry 1 1 0 0 1 0
+    ∷ geometry 1 1 1 0 0 0
+    ∷ [])
 
 examples : map seen table ≡ map (λ r. r .is) table
 unfolding seen table
