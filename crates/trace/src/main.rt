@@ -1,4 +1,5 @@
 // Document 01's program `trace`: records from standard input, a line for each on standard output, written as it is made.
+// Each function that writes answers whether all was written; the first write that fails is the last, and standard error says so.
 ghost use mathlib.Core.Path.{_≡_};
 ghost use mathlib.Core.Bool.{true};
 ghost use Prim.Native.Nat.{_+_, _*_, _≤_};
@@ -11,25 +12,29 @@ use model::Geometry;
 use model::LogicalPage;
 use records::Header;
 
-fn say(text: &[u8]) {
-    io::write_all(1, text);
+fn say(text: &[u8]) -> bool {
+    io::write_all(1, text)
 }
 
 // "Last: `m` and each entry as segment.page or `-`."
-fn print_map(geo: Geometry, tab: &[u32], line: &mut [u8])
+fn print_map(geo: Geometry, tab: &[u32], line: &mut [u8]) -> bool
     requires { ⌜ Good geo ⌝ }
     requires { ⌜ length (now tab) ≡ tabWords geo ⌝ }
     requires { ⌜ 24 ≤ length (now line) ⌝ }
 {
-    say(b"m");
+    if !say(b"m") {
+        return false;
+    }
     let mut l = 0;
     while l < geo.e {
         let a = page_map::word_of(geo, LogicalPage(l), tab);
         let k = lines::put_entry(geo, a, line);
-        say(&line[0..k]);
+        if !say(&line[0..k]) {
+            return false;
+        }
         l += 1;
     }
-    say(b"\n");
+    say(b"\n")
 }
 
 // "on formatted flash and fresh tables, records until the end"
@@ -46,7 +51,7 @@ fn follow(
     out: &mut [u8],
     file: &mut [u8],
     line: &mut [u8],
-)
+) -> bool
     requires { ⌜ small? geo ≡ true ⌝ }
     requires { ⌜ length (now tab) ≡ tabWords geo ⌝ }
     requires { ⌜ 24 ≤ length (now line) ⌝ }
@@ -75,18 +80,19 @@ fn follow(
             line,
         );
         let Turn::Told(next, kept, k) = t else {
-            say(b"t !1\n");
-            return;
+            return say(b"t !1\n");
         };
-        say(&line[0..k]);
+        if !say(&line[0..k]) {
+            return false;
+        }
         at = next;
         stored = kept;
     }
-    print_map(geo, tab, line);
+    print_map(geo, tab, line)
 }
 
 // The memory of the largest device that a trace may have, of which each call is lent what the geometry asks.
-fn play(geo: Geometry, xs: &[u8], first: usize, bad: &[u8])
+fn play(geo: Geometry, xs: &[u8], first: usize, bad: &[u8]) -> bool
     requires { ⌜ small? geo ≡ true ⌝ }
     requires { ⌜ length (now bad) ≡ 1024 ⌝ }
 {
@@ -123,14 +129,13 @@ fn play(geo: Geometry, xs: &[u8], first: usize, bad: &[u8])
         out,
         file,
         line,
-    );
+    )
 }
 
 // "Length is tested first, then the header's form, then its values."
-fn run(xs: &[u8]) {
+fn run(xs: &[u8]) -> bool {
     if 16384 < xs.len() {
-        say(b"t !3\n");
-        return;
+        return say(b"t !3\n");
     }
     let mut bad_space = [0u8; 1024];
     let bad: &mut [u8] = &mut bad_space;
@@ -144,5 +149,7 @@ fn run(xs: &[u8]) {
 fn main() {
     let mut input = [0u8; 16385];
     let length = io::read_full(0, &mut input);
-    run(&input[..length]);
+    if !run(&input[..length]) {
+        io::write_all(2, b"trace: output not written\n");
+    }
 }

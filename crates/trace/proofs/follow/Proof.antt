@@ -22,7 +22,7 @@ Inv-loop geo xs first bad tab₀ used₀ bytes₀ marks₀ counts₀ out₀ file
 abbrev μ-loop : tie.MeasureT-loop
 μ-loop geo xs first bad tab₀ used₀ bytes₀ marks₀ counts₀ out₀ file₀ line₀ fuse₀ at₀ stored₀ t20 tab used bytes marks counts out file line fuse at stored = length xs - at
 
--- places: the entry, the flash formatted, the tables opened; the loop; in a turn, its record done and told
+-- places: the entry, the flash formatted, the tables opened; the loop; in a turn, its record done and told, or its line not written
 
 abbrev start-at-1 : tie.After-format Inv-loop μ-loop → tie.After-format-arg Inv-loop μ-loop
 start-at-1 c = c .before .before .before .before
@@ -108,6 +108,9 @@ short-at-4 c = short-at-3 c .before .before .before .before
 abbrev short-at : tie.After-say Inv-loop μ-loop → tie.After-do-record Inv-loop μ-loop
 short-at c = short-at-4 c .before .before .before .before
 
+abbrev failed-at : tie.Then1 Inv-loop μ-loop → tie.After-do-record Inv-loop μ-loop
+failed-at c = done-at (left-at (c .before))
+
 abbrev last-at : tie.After-print-map-arg2 Inv-loop μ-loop → tie.At-loop Inv-loop μ-loop
 last-at c = c .before .before .before
 
@@ -146,8 +149,20 @@ part-say-end c =
     let e = told-at c in
     record-told e .1
 
+same-length-9 : tie.Need-same-length-9 Inv-loop μ-loop
+same-length-9 c = omega (arith, failed-at c .do-record .kept, turn-at (failed-at c) .loop .inv, opened-at (turn-at (failed-at c)) .open .kept)
+
+same-length-11 : tie.Need-same-length-11 Inv-loop μ-loop
+same-length-11 c = omega (arith, failed-at c .do-record .kept, turn-at (failed-at c) .loop .inv, formatted-at (turn-at (failed-at c)) .format .kept)
+
+same-length-12 : tie.Need-same-length-12 Inv-loop μ-loop
+same-length-12 c = omega (arith, failed-at c .do-record .kept, turn-at (failed-at c) .loop .inv, formatted-at (turn-at (failed-at c)) .format .kept)
+
+same-length-13 : tie.Need-same-length-13 Inv-loop μ-loop
+same-length-13 c = omega (arith, failed-at c .do-record .kept, turn-at (failed-at c) .loop .inv, formatted-at (turn-at (failed-at c)) .format .kept)
+
 loop-less : tie.Need-loop-less Inv-loop μ-loop
-loop-less c = omega (arith, record-told (left-at c) .0)
+loop-less c = omega (arith, record-told (left-at (c .before)) .0)
 
 print-map-requires : tie.Need-print-map-requires Inv-loop μ-loop
 print-map-requires c κs =
@@ -205,23 +220,8 @@ part-say-start c = search needs
 say-requires-2 : tie.Need-say-requires-2 Inv-loop μ-loop
 say-requires-2 c κs = search needs
 
-loop-again : tie.Need-loop-again Inv-loop μ-loop
-loop-again c = search needs
-
-same-length-9 : tie.Need-same-length-9 Inv-loop μ-loop
-same-length-9 c = search needs
-
 same-length-10 : tie.Need-same-length-10 Inv-loop μ-loop
 same-length-10 c = search needs
-
-same-length-11 : tie.Need-same-length-11 Inv-loop μ-loop
-same-length-11 c = search needs
-
-same-length-12 : tie.Need-same-length-12 Inv-loop μ-loop
-same-length-12 c = search needs
-
-same-length-13 : tie.Need-same-length-13 Inv-loop μ-loop
-same-length-13 c = search needs
 
 same-length-14 : tie.Need-same-length-14 Inv-loop μ-loop
 same-length-14 c = search needs
@@ -234,6 +234,36 @@ same-length-16 c = search needs
 
 returns-2 : tie.Need-returns-2 Inv-loop μ-loop
 returns-2 c = search needs
+
+loop-again : tie.Need-loop-again Inv-loop μ-loop
+loop-again c = search needs
+
+same-length-17 : tie.Need-same-length-17 Inv-loop μ-loop
+same-length-17 c = search needs
+
+same-length-18 : tie.Need-same-length-18 Inv-loop μ-loop
+same-length-18 c = search needs
+
+same-length-19 : tie.Need-same-length-19 Inv-loop μ-loop
+same-length-19 c = search needs
+
+same-length-20 : tie.Need-same-length-20 Inv-loop μ-loop
+same-length-20 c = search needs
+
+same-length-21 : tie.Need-same-length-21 Inv-loop μ-loop
+same-length-21 c = search needs
+
+same-length-22 : tie.Need-same-length-22 Inv-loop μ-loop
+same-length-22 c = search needs
+
+same-length-23 : tie.Need-same-length-23 Inv-loop μ-loop
+same-length-23 c = search needs
+
+same-length-24 : tie.Need-same-length-24 Inv-loop μ-loop
+same-length-24 c = search needs
+
+returns-3 : tie.Need-returns-3 Inv-loop μ-loop
+returns-3 c = search needs
 
 pub follow-spec : {M : Type 1} → statement M
 follow-spec =
@@ -262,9 +292,6 @@ follow-spec =
     part-say-start
     part-say-end
     say-requires-2
-    loop-less
-    loop-again
-    print-map-requires
     same-length-9
     same-length-10
     same-length-11
@@ -273,4 +300,16 @@ follow-spec =
     same-length-14
     same-length-15
     same-length-16
-    returns-2)
+    returns-2
+    loop-less
+    loop-again
+    print-map-requires
+    same-length-17
+    same-length-18
+    same-length-19
+    same-length-20
+    same-length-21
+    same-length-22
+    same-length-23
+    same-length-24
+    returns-3)

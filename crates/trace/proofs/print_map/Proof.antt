@@ -31,6 +31,9 @@ slice-aggregate-say c = search needs
 say-requires : tie.Need-say-requires Inv-loop μ-loop
 say-requires c κs = search needs
 
+returns : tie.Need-returns Inv-loop μ-loop
+returns c = search needs
+
 loop-holds : tie.Need-loop-holds Inv-loop μ-loop
 loop-holds c = search needs
 
@@ -49,6 +52,12 @@ part-say-start c = search needs
 say-requires-2 : tie.Need-say-requires-2 Inv-loop μ-loop
 say-requires-2 c κs = search needs
 
+same-length : tie.Need-same-length Inv-loop μ-loop
+same-length c = search needs
+
+returns-2 : tie.Need-returns-2 Inv-loop μ-loop
+returns-2 c = search needs
+
 add-l : tie.Need-add-l Inv-loop μ-loop
 add-l c = search needs
 
@@ -64,11 +73,11 @@ slice-aggregate-say-2 c = search needs
 say-requires-3 : tie.Need-say-requires-3 Inv-loop μ-loop
 say-requires-3 c κs = search needs
 
-same-length : tie.Need-same-length Inv-loop μ-loop
-same-length c = search needs
+same-length-2 : tie.Need-same-length-2 Inv-loop μ-loop
+same-length-2 c = search needs
 
-returns : tie.Need-returns Inv-loop μ-loop
-returns c = search needs
+returns-3 : tie.Need-returns-3 Inv-loop μ-loop
+returns-3 c = search needs
 
 pub print-map-spec : {M : Type 1} → statement M
 print-map-spec =
@@ -78,6 +87,7 @@ print-map-spec =
     μ-loop
     slice-aggregate-say
     say-requires
+    returns
     loop-holds
     word-of-requires
     put-entry-requires
@@ -85,10 +95,12 @@ print-map-spec =
     part-say-start
     part-say-end
     say-requires-2
+    same-length
+    returns-2
     add-l
     loop-less
     loop-again
     slice-aggregate-say-2
     say-requires-3
-    same-length
-    returns)
+    same-length-2
+    returns-3)
