@@ -1,10 +1,11 @@
--- All that the program writes on 30 traces of tests/traces.txt, one table by computation: 01's example, the three ways to stop, a restore without
--- a checkpoint, and the limits of the header, of a number and of a read. Too long an input is a theorem besides, `too-long`.
+-- All that the program writes on the 31 traces of tests/traces.txt, one table by computation: 01's example, the three ways to stop, restores with
+-- and without a checkpoint, and the limits of the header, of a number and of a read. Too long an input is a theorem besides, `too-long`.
 use Prim.Native.Nat.{ℕ, _<_}
 use mathlib.Core.Path.{_≡_, refl}
 use mathlib.Core.List.{List, [], _∷_, map}
 use lib.ListN.{length, replicate}
 use borrow.Author.Tests.{lt-ltb}
+use Rattle.crc32.specs.Crc32.{plus, add, among, powers, low, remainder, bitsOf, bits, digit, number as valueOf, dividend, crc32}
 use Rattle.model.specs.Lists.{without, pushFront, insertBy, sortBy, splice, total, occ, all, every, blank, upTo}
 use Rattle.model.specs.Numbers.{good?}
 use Rattle.model.specs.Tables.{view, packed}
@@ -13,8 +14,8 @@ use Rattle.model.specs.Device.{burn, mayProgram, mayErase, formatFrom}
 use Rattle.model.specs.PageMap.{clearFrom, findFrom, find, invalidate, forget}
 use Rattle.model.specs.PageWrite.{oldPage, writeAt, writePage}
 use Rattle.model.specs.PageGc.{sorted, finishOf, drain, collectOf, collect, collectMore, collectList}
-use Rattle.model.specs.Checkpoint.{usedBy, reasonOf}
-use Rattle.model.specs.Entry.{unless, guarded, clean, formatting, opening, read, restoring, write, collection, listCollection}
+use Rattle.model.specs.Checkpoint.{usedBy, word, long, words, wordAt, longAt, wordsAt, head, file, reasonOf, welcome, settleAll, restored}
+use Rattle.model.specs.Entry.{unless, guarded, clean, formatting, opening, read, encoding, restoring, write, collection, listCollection}
 use Rattle.numbers.specs.Groups.{longer, groups}
 use Rattle.records.specs.Trace.{marking, header, writeRecord, readRecord, listRecord, recordOf}
 use Rattle.lines.specs.Text.{digits, hex}
@@ -88,6 +89,8 @@ rows =
     ∷ row (device (7 ∷ [])) t-1
     -- a restore without a checkpoint: "s !1"
     ∷ row (device (5 ∷ [])) (115 ∷ 32 ∷ 33 ∷ 49 ∷ 10 ∷ m-3)
+    -- a checkpoint and two restores: "c 68", "s 0", "s 0"
+    ∷ row (device (4 ∷ 5 ∷ 5 ∷ [])) (99 ∷ 32 ∷ 54 ∷ 56 ∷ 10 ∷ 115 ∷ 32 ∷ 48 ∷ 10 ∷ 115 ∷ 32 ∷ 48 ∷ 10 ∷ m-3)
     -- n·p 1,024 and 1,025; s 512 and 513; n·p·s 32,768 and 33,280
     ∷ row (128 ∷ 8 ∷ 1 ∷ 1 ∷ 0 ∷ 1 ∷ 0 ∷ 0 ∷ []) m-1
     ∷ row (129 ∷ 8 ∷ 1 ∷ 1 ∷ 0 ∷ 1 ∷ 0 ∷ 0 ∷ []) t-2
@@ -125,8 +128,9 @@ told : map (λ r. output (r .input)) rows ≡ map (λ r. r .text) rows
 unfolding
     rows without pushFront insertBy sortBy splice total occ all every blank upTo good? view packed names soundb burn mayProgram mayErase
     formatFrom clearFrom findFrom find invalidate forget oldPage writeAt writePage sorted finishOf drain collectOf collect collectMore
-    collectList usedBy reasonOf unless guarded clean formatting opening read restoring write collection listCollection longer groups
-    marking header writeRecord readRecord listRecord recordOf digits hex entries lines output
+    collectList usedBy word long words wordAt longAt wordsAt head file reasonOf welcome settleAll restored unless guarded clean formatting
+    opening read encoding restoring write collection listCollection plus add among powers low remainder bitsOf bits digit valueOf dividend
+    crc32 longer groups marking header writeRecord readRecord listRecord recordOf digits hex entries lines output
 told = refl
 
 -- "too long an input only `t !3`"
