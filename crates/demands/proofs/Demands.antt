@@ -1,8 +1,9 @@
--- The demands, of the functions that run. Each premise `Promise …` is, letter for letter, the `ensures` of a public function in crates/ftl/src/lib.rt. None of
--- these functions has a `requires`, so nothing is asked of what was lent to them: that is the first demand.
-use Prim.Native.Nat.{ℕ, _*_}
+-- The demands, of the functions that run. Each premise `Promise …` is the `ensures` of a public function in crates/ftl/src/lib.rt, letter for letter, or
+-- follows from it by `format-runs` to `restore-runs`. None of these functions has a `requires`, so nothing is asked of what was lent to them. The second
+-- demand is the `ensures` themselves, each function equal to its definition, and the runs beside the Rust.
+use Prim.Native.Nat.{ℕ, suc, _≤_}
 use mathlib.Core.Path.{_≡_, refl, sym, ap, _∙_, subst}
-use mathlib.Core.Logic.{_⊎_, inl, inr}
+use mathlib.Core.Logic.{_⊎_, inl, inr, _≢_}
 use mathlib.Core.List.{List, [], _∷_}
 use lib.IntN.{ℤ, pos, negsuc}
 use lib.ListN.{length, take}
@@ -10,27 +11,28 @@ use Rattle.model.specs.declared.Geometry.{Geometry}
 use Rattle.model.specs.declared.Answer.{Answer}
 use Rattle.model.specs.declared.Answer.the-variants.{Moved, Refused}
 use Rattle.model.specs.declared.Cause.{Cause}
+use Rattle.model.specs.declared.Cause.the-variants.{Reason}
 use Rattle.model.specs.Lists.{zeros}
-use Rattle.model.specs.Numbers.{flat, number}
+use Rattle.model.specs.Numbers.{flat, refusal, number, logicalPage}
 use Rattle.model.specs.Tables.{tabWords, pages, wordOf, view}
 use Rattle.model.specs.Sound.{Mapped}
 use Rattle.model.specs.Device.{Flash, flash}
 use Rattle.model.specs.Entry.{Recorder, recorder, Lent, lent, Outcome, outcome, Promise, noFlash}
 use Rattle.model.specs.Entry.{formatting, opening, read, encoding, restoring}
-use Rattle.model.specs.History.{Call, Format, Open, Read, Encode, Restore}
+use Rattle.model.specs.History.{Call, Format, Open, Read, Write, Encode, Restore}
 use Rattle.model.specs.History.{run, contentOf, Reached, Since, lost, GivesBack}
 use Rattle.model.proofs.Guard.{guarded-by}
 use Rattle.model.proofs.Outcome.{one-outcome}
-use Rattle.model.proofs.Entry.{reached-sound, apart}
+use Rattle.model.proofs.Entry.{write-others, apart}
 use Rattle.model.proofs.Cut.{cut-restores}
 use Rattle.model.proofs.Frame.{over, withFlash, withTables, formatting-alone, opening-alone, encoding-alone, restoring-alone, read-alone}
 use Rattle.demands.specs.Given.{lentTo}
-use Rattle.demands.specs.When.{When, Positive, Negative}
+use Rattle.demands.specs.When.{When, IsCount, IsRefusal}
 use Rattle.demands.specs.Left.{Leaves}
 use Rattle.demands.specs.Unit.{Collects, Shows, Ever, FromOpening}
 use Rattle.demands.proofs.Seen.{collected-content, read-behind-collection}
 use Rattle.demands.proofs.Unchanged.{scratch-back}
-use Rattle.demands.proofs.Signs.{signs}
+use Rattle.demands.proofs.Signs.{signs, reasons}
 use Rattle.demands.proofs.Exactly.{answers-of}
 use Rattle.demands.proofs.Leaves.{leaves}
 use Rattle.demands.proofs.Kept.{unit-restores}
@@ -76,12 +78,12 @@ module _ (G : Geometry) (bad : List ℕ) where
 
   -- "bytes moved, or a refusal number negated": 0 or above, or below 0
   abbrev Signed : Answer → ℤ → Type 0
-  Signed a z = ((h : Positive a) × (z ≡ pos (h .moved))) ⊎ ((h : Negative a) × (z ≡ negsuc (h .below)))
+  Signed a z = ((h : IsCount a) × (z ≡ pos (h .moved))) ⊎ ((h : IsRefusal a) × (z ≡ negsuc (h .below)))
 
   pub sign-of : (c : Call) (r : Recorder) {x : Lent} {z : ℤ} → Promise (run G bad c r) x z → Signed (run G bad c r .answer) z
   sign-of c r {x} {z} P = go (signs G bad c r)
     where
-      go : Positive (run G bad c r .answer) ⊎ Negative (run G bad c r .answer) → Signed (run G bad c r .answer) z
+      go : IsCount (run G bad c r .answer) ⊎ IsRefusal (run G bad c r .answer) → Signed (run G bad c r .answer) z
       go (inl h) = inl (h, P .answer-is ∙ h .number-is)
       go (inr h) = inr (h, P .answer-is ∙ h .number-is)
 
@@ -92,19 +94,45 @@ module _ (G : Geometry) (bad : List ℕ) where
   pub given-only : (c : Call) (r : Recorder) {x : Lent} {z : ℤ} → Promise (run G bad c r) x z → (a : Answer) × When G bad c r a × (z ≡ number a)
   given-only c r P = (run G bad c r .answer, answers-of G bad c r (run G bad c r .answer) .only refl, P .answer-is)
 
-  -- "Left behind": a refusal leaves what the row of its cause says, "nothing changed" or more
-  pub refusal-leaves : (c : Call) (r : Recorder) {x : Lent} {z : ℤ} → Promise (run G bad c r) x z
-      → (k : Cause) → run G bad c r .answer ≡ Refused k → Leaves G bad c r k (outcome x (Refused k) (run G bad c r .ops))
-  refusal-leaves c r P k e =
-      subst (λ (y : Lent). Leaves G bad c r k (outcome y (Refused k) (run G bad c r .ops))) (sym (P .left-is))
-      (let L : Leaves G bad c r k (run G bad c r) = leaves G bad c r k e in
-      record { unchanged = L .unchanged; row = L .row; buffer = L .buffer; scratch = L .scratch })
+  -- A refusal, from the number that came back: it is the number of a cause whose row of 01's table holds, in both columns; of a restore's reasons, 1 to 9
+  pub record Refusal (c : Call) (r : Recorder) (x : Lent) (below : ℕ) : Type 0 where
+    pub cause : Cause
+    pub number-is : refusal cause ≡ suc below
+    pub answer : run G bad c r .answer ≡ Refused cause
+    pub reason-in : (k : ℕ) → cause ≡ Reason k → (1 ≤ k) × (k ≤ 9)
+    pub given : When G bad c r (Refused cause)
+    pub leaves-it : Leaves G bad c r cause (outcome x (Refused cause) (run G bad c r .ops))
+
+  abbrev is-below : ℤ → ℕ → Type 0
+  is-below (pos m) j = ⊥
+  is-below (negsuc k) j = k ≡ j
+
+  pub refusal-leaves : (c : Call) (r : Recorder) {x : Lent} (below : ℕ) → Promise (run G bad c r) x (negsuc below) → Refusal c r x below
+  refusal-leaves c r {x} below P = go (sign-of c r P)
+    where
+      at-cause : (h : IsRefusal (run G bad c r .answer)) → h .below ≡ below → Refusal c r x below
+      at-cause h q =
+          let L : Leaves G bad c r (h .cause) (run G bad c r) = leaves G bad c r (h .cause) (h .answer) in
+          record {
+            cause = h .cause;
+            number-is = h .refusal-is ∙ ap suc q;
+            answer = h .answer;
+            reason-in = λ k e. reasons G bad c r k (h .answer ∙ ap Refused e);
+            given = answers-of G bad c r (Refused (h .cause)) .only (h .answer);
+            leaves-it =
+                subst (λ (y : Lent). Leaves G bad c r (h .cause) (outcome y (Refused (h .cause)) (run G bad c r .ops))) (sym (P .left-is))
+                (record { unchanged = L .unchanged; row = L .row; buffer = L .buffer; scratch = L .scratch });
+          }
+
+      go : Signed (run G bad c r .answer) (negsuc below) → Refusal c r x below
+      go (inl h) = absurd (subst (λ z. is-below z below) (h .1) refl)
+      go (inr h) = at-cause (h .0) (subst (λ z. is-below z below) (h .1) refl)
 
   -- scratch comes back on every input, whatever the answer
   pub scratch-stays : (c : Call) (r : Recorder) {x : Lent} {z : ℤ} → Promise (run G bad c r) x z → x .scratch ≡ lentTo c r .scratch
   scratch-stays c r P = ap (λ (x : Lent). x .scratch) (P .left-is) ∙ scratch-back G bad c r
 
-  -- ---- "a lemma shows two outcomes that both satisfy it are the same": the second demand's equality is with the definition, and with nothing else
+  -- ---- "a lemma shows two outcomes that both satisfy it are the same"
 
   pub one-outcome-of : (c : Call) (r : Recorder) {x x′ : Lent} {z z′ : ℤ} → Promise (run G bad c r) x z → Promise (run G bad c r) x′ z′
       → (x ≡ x′) × (z ≡ z′)
@@ -120,12 +148,16 @@ module _ (G : Geometry) (bad : List ℕ) where
   collect-keeps c n r P l = ap (λ (r : Recorder). contentOf G r l) (unit-is P) ∙ collected-content G bad r l c n
 
   -- and no read tells it from the recorder before it: same answer, same buffer
-  pub collect-unseen : (c : Call) → Collects c → {r : Recorder} → Reached G bad r → length (r .flash .bytes) ≡ pages G * G .s
-      → {x : Lent} {z : ℤ} → Promise (run G bad c r) x z
-      → (sector len : ℕ) (o : List ℕ) (s : List (List ℕ)) → Shows (run G bad (Read sector len o s) (x .unit)) (run G bad (Read sector len o s) r)
-  collect-unseen c n {r} h b P sector len o s =
-      subst (λ y. Shows (run G bad (Read sector len o s) y) (run G bad (Read sector len o s) r)) (sym (unit-is P))
-      (read-behind-collection G bad c n r (reached-sound G bad h) b sector len o s)
+  pub collect-unseen : (c : Call) → Collects c → (r : Recorder) {x : Lent} {z : ℤ} → Promise (run G bad c r) x z
+      → (sector len : ℕ) (b : List ℕ) (s : List (List ℕ)) → Shows (run G bad (Read sector len b s) (x .unit)) (run G bad (Read sector len b s) r)
+  collect-unseen c n r P sector len b s =
+      subst (λ y. Shows (run G bad (Read sector len b s) y) (run G bad (Read sector len b s) r)) (sym (unit-is P))
+      (read-behind-collection G bad r sector len b s c n)
+
+  -- a write, whatever it answers, changes no other logical page's content
+  pub write-keeps : (sector len : ℕ) (d : List ℕ) (s : List (List ℕ)) (r : Recorder) {x : Lent} {z : ℤ} → Promise (run G bad (Write sector len d s) r) x z
+      → (l : ℕ) → l ≢ logicalPage G sector → contentOf G (x .unit) l ≡ contentOf G r l
+  write-keeps sector len d s r P l n = ap (λ (r : Recorder). contentOf G r l) (unit-is P) ∙ write-others G bad sector len d (lent r [] s) l n
 
   -- and no two mapped logical pages of a recorder that public calls reached share a physical page
   pub none-shared : {r : Recorder} → Reached G bad r → (l m : ℕ)
@@ -172,8 +204,9 @@ restored-back G bad H w₀ u₀ f₀ b b′ s s′ m E back r h hw hu w u t z P 
     let p = restore-runs G bad (r .flash) (take m b′) (r .words) (r .used) w u (zeros (pages G) ∷ []) t z P in
     (p .answer-is ∙ ap number (B .answer), λ l. ap (λ (r : Recorder). contentOf G r l) (ap (λ (x : Lent). x .unit) (p .left-is)) ∙ B .contents l)
 
--- The demand as it was made: since the checkpoint there was no opening, no restore of another, and no erase begun in a segment holding a page mapped
--- then (`Since`). The power may have gone at any device operation, as often as it liked.
+-- The demand as it was made (`Since`): since the checkpoint there was no opening, no restore of another, and no erase begun in a segment holding a page
+-- mapped then. The power may have gone at any device operation, as often as it liked; between a cut and the restore, over the lost tables, no call did a
+-- device operation but formatting.
 pub given-back : (G : Geometry) (bad : List ℕ) (w₀ u₀ : List ℕ) (f₀ : Flash) (b b′ : List ℕ) (s s′ : List (List ℕ)) (m : ℕ)
     → Promise (encoding G (lent (recorder w₀ u₀ noFlash) b s)) (lent (recorder w₀ u₀ noFlash) b′ s′) (pos m)
     → (r : Recorder) → Since G bad (recorder w₀ u₀ f₀) (take m b′) lost r → length (r .words) ≡ tabWords G → length (r .used) ≡ pages G
@@ -184,8 +217,8 @@ given-back G bad w₀ u₀ f₀ b b′ s s′ m E =
     restored-back G bad (λ file r. Since G bad (recorder w₀ u₀ f₀) file lost r) w₀ u₀ f₀ b b′ s s′ m E
     (λ r e h hw hu. cut-restores G bad (recorder w₀ u₀ f₀) b s m e h hw hu)
 
--- And of a unit from its opening on (`FromOpening`) the same with no premise but the erases (`Ever`): openings, restores of other files, calls over any
--- tables may have come since. The device's own rule, a marked page is not programmed again, guards each page that was mapped.
+-- And of a unit from its opening on (`FromOpening`) the same with no premise but the erases (`Ever`): openings, restores of other files and calls of every
+-- kind over any tables, lost ones too, may have come since. The device's own rule, a marked page is not programmed again, guards each page that was mapped.
 pub unit-given-back : (G : Geometry) (bad : List ℕ) (w₀ u₀ : List ℕ) (f₀ : Flash) (b b′ : List ℕ) (s s′ : List (List ℕ)) (m : ℕ)
     → FromOpening G bad (recorder w₀ u₀ f₀)
     → Promise (encoding G (lent (recorder w₀ u₀ noFlash) b s)) (lent (recorder w₀ u₀ noFlash) b′ s′) (pos m)

@@ -23,7 +23,7 @@ use Rattle.model.specs.PageMap.{find, spend, unlink, forget}
 use Rattle.model.specs.PageWrite.{holds, content, oldPage, stored, spent, writeAt, writePage}
 use Rattle.model.specs.PageGc.{sorted, victim}
 use Rattle.model.specs.Entry.{Recorder, Lent, lent, back, stateOf}
-use Rattle.model.specs.History.{Write, run, after, contentOf}
+use Rattle.model.specs.History.{Write, lit, run, after, contentOf}
 use Rattle.model.proofs.Working.{Counted}
 use Rattle.model.proofs.Slots.{same?, less?, by-same}
 use Rattle.model.proofs.Counts.{occ-getD, length-sort}
@@ -39,7 +39,7 @@ use Rattle.model.proofs.Collect.{last-in}
 use Rattle.model.proofs.Entry.{Fits, inner, wrote-by, back-content}
 use Rattle.demands.proofs.Ends.{forget-flagged}
 use Rattle.demands.specs.Given.{tab}
-use Rattle.demands.specs.Protocol.{Drained, First, Emptied, accepts, Empties, Drains, none, writes}
+use Rattle.demands.specs.Protocol.{Drained, First, Shortened, accepts, DrainsNext, Drains, none, with-fuse, writes}
 
 -- ---- step 1: the victim is the first in the queue with the fewest valid pages
 
@@ -252,10 +252,10 @@ aside-victim G t t′ S S′ some D =
     same : queueOf t′ ≡ queueOf t
     same = ap (λ k. take k (t′ .queue)) (D .queued) ∙ ap (take (t .queued)) (D .queue)
 
-left-none : (G : Geometry) (r : Recorder) → Emptied G 0 r r
+left-none : (G : Geometry) (r : Recorder) → Shortened G 0 r r
 left-none G r = record { same = refl; waits = refl; fewer = omega arith; contents = λ j. refl }
 
-left-more : (G : Geometry) (a b : ℕ) (r r′ r″ : Recorder) → Emptied G a r r′ → Emptied G b r′ r″ → Emptied G (a + b) r r″
+left-more : (G : Geometry) (a b : ℕ) (r r′ r″ : Recorder) → Shortened G a r r′ → Shortened G b r′ r″ → Shortened G (a + b) r r″
 left-more G a b r r′ r″ A B =
     record {
       same = B .same ∙ A .same;
@@ -264,7 +264,7 @@ left-more G a b r r′ r″ A B =
       contents = λ j. B .contents j ∙ A .contents j;
     }
 
-module _ (G : Geometry) (bad : List ℕ) (sector : ℕ) (d : List ℕ) (s : List (List ℕ)) (r : Recorder) (some : 0 < tab G r .queued) (E : Empties G sector r) where
+module _ (G : Geometry) (bad : List ℕ) (sector : ℕ) (d : List ℕ) (s : List (List ℕ)) (r : Recorder) (some : 0 < tab G r .queued) (E : DrainsNext G sector r) where
   abbrev v : ℕ
   v = victim (tab G r)
 
@@ -297,7 +297,7 @@ module _ (G : Geometry) (bad : List ℕ) (sector : ℕ) (d : List ℕ) (s : List
         omega arith
     shorter (Refused c) q u = omega (arith, ap (λ xs. at xs v) u)
 
-    went : Emptied G (accepts (out .answer)) r (back G lending out .left .unit)
+    went : Shortened G (accepts (out .answer)) r (back G lending out .left .unit)
     went =
         let q : tab G (back G lending out .left .unit) ≡ out .st .tab = view-packed (W .sound .sized) in
         record {
@@ -307,19 +307,25 @@ module _ (G : Geometry) (bad : List ℕ) (sector : ℕ) (d : List ℕ) (s : List
           contents = deed-keeps G bad sector d s r (here .0) X W;
         }
 
-  emptied-left : Emptied G (accepts (run G bad (Write sector 0 d s) r .answer)) r (after G bad (Write sector 0 d s) r)
-  emptied-left = wrote-by G bad sector 0 d lending (λ y. Emptied G (accepts (y .answer)) r (y .left .unit)) (left-none G r) (left-none G r) went
+  emptied-left : Shortened G (accepts (run G bad (Write sector 0 d s) r .answer)) r (after G bad (Write sector 0 d s) r)
+  emptied-left = wrote-by G bad sector 0 d lending (λ y. Shortened G (accepts (y .answer)) r (y .left .unit)) (left-none G r) (left-none G r) went
 
 module _ (G : Geometry) (bad : List ℕ) where
+  -- another fuse changes none of these
+  relit : (f k : ℕ) (r r′ : Recorder) → Shortened G k (lit f r) r′ → Shortened G k r r′
+  unfolding content
+  relit f k r r′ L = record { same = L .same; waits = L .waits; fewer = L .fewer; contents = λ j. L .contents j }
+
   -- whatever each of the writes answers, a refused one changes none of these
-  pub drains : {k : ℕ} {r r′ : Recorder} → 0 < tab G r .queued → Drains G bad k r r′ → Emptied G k r r′
+  pub drains : {k : ℕ} {r r′ : Recorder} → 0 < tab G r .queued → Drains G bad k r r′ → Shortened G k r r′
   drains {r = r} some none = left-none G r
+  drains {k} {r} {r′} some (with-fuse f h) = relit f k r r′ (drains some h)
   drains {r = r} {r′ = r′} some (writes {k} sector d s E h) =
-      let A : Emptied G (accepts (run G bad (Write sector 0 d s) r .answer)) r (after G bad (Write sector 0 d s) r) = emptied-left G bad sector d s r some E in
+      let A : Shortened G (accepts (run G bad (Write sector 0 d s) r .answer)) r (after G bad (Write sector 0 d s) r) = emptied-left G bad sector d s r some E in
       left-more G _ k r (after G bad (Write sector 0 d s) r) r′ A (drains (omega (arith, A .waits)) h)
 
   -- as many accepted as pages were listed, and the victim is drained
   pub drains-all : {k : ℕ} {r r′ : Recorder} → 0 < tab G r .queued → Drains G bad k r r′ → at (tab G r .lens) (victim (tab G r)) ≡ k → Drained G r′
   drains-all {k} {r} {r′} some h e =
-      let L : Emptied G k r r′ = drains some h in
-      ap (at (tab G r′ .lens)) (L .same) ∙ omega (arith, L .fewer)
+      let L : Shortened G k r r′ = drains some h in
+      λ _. ap (at (tab G r′ .lens)) (L .same) ∙ omega (arith, L .fewer)

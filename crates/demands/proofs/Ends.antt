@@ -18,7 +18,7 @@ use Rattle.model.specs.declared.Cause.the-variants.{Wrong, Unsound, Unmapped, N
 use Rattle.model.specs.Numbers.{Good, empty, segOf}
 use Rattle.model.specs.Tables.{Tables, at, wordOf, queueOf, listOf}
 use Rattle.model.specs.Sound.{Mapped, slotOf}
-use Rattle.model.specs.Device.{Flash, Op, Program, EraseSeg, State, state, Out, out, mayProgram, mayErase, performAll, finish, refuse, behind, goOn}
+use Rattle.model.specs.Device.{Flash, Op, Program, EraseSeg, State, state, Out, out, mayProgram, mayErase, raised, blanked, performAll, finish, refuse, behind, goOn}
 use Rattle.model.specs.declared.Found.{Found}
 use Rattle.model.specs.declared.Found.the-variants.{At, Nothing}
 use Rattle.model.specs.PageMap.{find, spend, due, unlink, invalidate, forget, place}
@@ -37,11 +37,12 @@ use Rattle.model.proofs.Find.{Full, Free, found}
 use Rattle.model.proofs.Ops.{perform-append}
 use Rattle.model.proofs.Write.{Busy, Shorter, Wrote}
 use Rattle.model.proofs.Guard.{each}
-use Rattle.model.proofs.Content.{content-same}
+use Rattle.model.proofs.Content.{content-same, blank-other}
+use Rattle.model.proofs.Reset.{not-here}
 use Rattle.model.proofs.Taken.{taken-sound, victim-flag, victim-full, victim-seg, victim-off}
 use Rattle.model.proofs.Collect.{Kept, last-in, W, copied}
 use Rattle.demands.specs.When.{Copies, none, copy}
-use Rattle.demands.specs.Left.{Spent, NotFound, Programs, Stand, CopyEnds, Off, Same, CopyRefused, EraseRefused, PassEnds}
+use Rattle.demands.specs.Left.{Spent, NotFound, Programs, Stand, CopyEnds, Off, ContentKept, Finished, CopyRefused, EraseRefused, PassEnds}
 
 -- ---- 5 (write): "the page found is spent: used, free -1, valid +1, allocation segment set; map, lists, queue, flash unchanged"
 
@@ -421,8 +422,8 @@ module _ (G : Geometry) (K : Good G) (bad : List ℕ) (st : State) (S : Counted 
           refused = q;
           last = last;
           victim-off = subst (Off st) (sym (N .same)) off-here;
-          same =
-              subst (λ z. Same G st z (d .ops)) (sym (N .same)) (record { contents = first; performs = D .stand .performs });
+          kept =
+              subst (λ z. ContentKept G st z (d .ops)) (sym (N .same)) (record { contents = first; performs = D .stand .performs });
         }
 
     one-spent : (c : Cause) → d .st ≡ copyOne G bad v (D .here) .st → copyOne G bad v (D .here) .answer ≡ Refused c → at (D .here .tab .lens) v ≢ 0
@@ -438,7 +439,7 @@ module _ (G : Geometry) (K : Good G) (bad : List ℕ) (st : State) (S : Counted 
           last = last;
           victim-off =
               off-as (d .st) (P .queue ∙ D .stand .queue) (P .queued ∙ D .stand .queued) (P .flags ∙ D .stand .flags);
-          same =
+          kept =
               record {
                 contents = λ l.
                     content-same G (D .here) (d .st) l (ap (λ m. getD m l empty) (P .map)) (λ _. ap (λ f. slotted f l) (P .flash)) ∙ first l;
@@ -454,7 +455,7 @@ module _ (G : Geometry) (K : Good G) (bad : List ℕ) (st : State) (S : Counted 
 
     ends-copy : (a : Answer) → copy-of .answer ≡ a → WriteEnds G bad (whole G (D .here) (lastOf G v (D .here .tab))) (D .here) (copy-of .st) (copy-of .ops) a
         → (c : Cause) → d .st ≡ copy-of .st → copyAnswer a ≡ Refused c → at (D .here .tab .lens) v ≢ 0 → PassEnds G bad st (d .st) (d .ops) (copyAnswer a)
-    ends-copy (Moved m) q w c e n some = tt
+    ends-copy (Moved m) q w c e n some = absurd (let z : _≡_ {A = ℕ} 0 1 = cc in omega arith)
     ends-copy (Refused NoRoom) q w c e n some =
         let N : NotFound G bad (D .here) (d .st) = subst (NotFound G bad (D .here)) (sym e) (w .0) in
         none-copied CopyNoRoom e (ap copyAnswer q) some N N
@@ -480,7 +481,37 @@ module _ (G : Geometry) (K : Good G) (bad : List ℕ) (st : State) (S : Counted 
           refused = q;
           not-reset = λ k h. D .sound .marked v k seg (omega (arith, D .stand .full));
           victim-off = off-here;
-          same = record { contents = first; performs = D .stand .performs };
+          kept = record { contents = first; performs = D .stand .performs };
+        }
+
+    -- the erase that was done
+    ends-finished : mayErase G v (D .here .flash) ≡ true → at (D .here .tab .lens) v ≡ 0
+        → Finished G bad st (cleared G v (D .here) .st) (d .ops ++ cleared G v (D .here) .ops)
+    ends-finished q n =
+        let all : D .done ≡ at (st .tab .lens) v = omega (arith, D .stand .fewer, n) in
+        record {
+          here = D .here;
+          copied = d .ops;
+          some = some;
+          copies = subst (λ k. Copies G bad v k st₁ (D .here)) all (D .copies);
+          stand = subst (λ k. Stand G v k st₁ (D .here) (d .ops)) all (D .stand);
+          erase = q;
+          ops-are = refl;
+          flash = refl;
+          tables = refl;
+          rest = off-here .rest;
+          kept =
+              record {
+                contents = λ l.
+                    content-same G (D .here) (cleared G v (D .here) .st) l refl
+                    (λ m.
+                    blank-other G (D .here .flash) (D .fit) v (raised G v (D .here .flash)) seg _ _ (omega (arith, D .sound .page< l m))
+                    (not-here G (D .here .tab) (D .sound) v seg n l m))
+                    ∙ first l;
+                performs =
+                    ap (blanked G v (raised G v (D .here .flash))) (D .stand .performs)
+                    ∙ sym (perform-append G (d .ops) (EraseSeg v (raised G v (D .here .flash)) ∷ []) (st .flash));
+              };
         }
 
     abbrev Ends : Out → Type 0
@@ -496,7 +527,10 @@ module _ (G : Geometry) (K : Good G) (bad : List ℕ) (st : State) (S : Counted 
     then (Moved m) e = go (mayErase G v (d .st .flash)) refl
       where
         go : (b : Bool) → mayErase G v (d .st .flash) ≡ b → Ends (behind (d .ops) (cond b (cleared G v (d .st)) (refuse Erase (d .st))))
-        go true q = tt
+        go true q =
+            inr
+            (subst (λ z. Finished G bad st (cleared G v z .st) (d .ops ++ cleared G v z .ops)) (sym (e .0))
+            (ends-finished (ap (λ z. mayErase G v (z .flash)) (sym (e .0)) ∙ q) (e .1)))
         go false q =
             subst (EraseRefused G bad st (d .st)) (sym (append-nil (d .ops)))
             (subst (λ z. EraseRefused G bad st z (d .ops)) (sym (e .0)) (ends-erase (ap (λ z. mayErase G v (z .flash)) (sym (e .0)) ∙ q) (e .1)))
@@ -513,5 +547,5 @@ module _ (G : Geometry) (K : Good G) (bad : List ℕ) (st : State) (S : Counted 
           → PassEnds G bad st ((cond b (finish 0 st) (collectOf G bad (victim (st .tab)) st)) .st)
           ((cond b (finish 0 st) (collectOf G bad (victim (st .tab)) st)) .ops)
           ((cond b (finish 0 st) (collectOf G bad (victim (st .tab)) st)) .answer)
-      go true e = tt
+      go true e = inl (eqb-true _ _ e, refl, refl)
       go false e = let n : st .tab .queued ≢ 0 = eqb-false _ _ e in ends-of (omega arith)

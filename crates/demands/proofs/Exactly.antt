@@ -33,6 +33,7 @@ use Rattle.model.proofs.Slots.{same?, less?}
 use Rattle.model.proofs.Guard.{guarded-passes, unless-passes}
 use Rattle.model.proofs.Refusals.{guarded-sizes, guarded-sound, guarded-page, guarded-overrun}
 use Rattle.model.proofs.Entry.{Fits}
+use Rattle.model.proofs.Collect.{Kept, collected}
 use Rattle.demands.proofs.Unchanged.{formats-all, Pass, collect-pass, more-pass, threshold-pass}
 use Rattle.demands.proofs.Passed.{guarded-ends, unless-ends}
 use Rattle.model.proofs.Find.{Full, Free, found}
@@ -563,16 +564,21 @@ module _ (G : Geometry) (bad : List ℕ) where
         → collectMore G bad (suc m) c st .answer ≡ collectMore G bad m (suc c) (collect G bad st .st) .answer
     more-next q n = more-on q ∙ ap (λ b. (cond b (finish c (collect G bad st .st)) (collectMore G bad m (suc c) (collect G bad st .st))) .answer) (ne-eqb _ _ n)
 
+-- the passes keep tables and flash sound, so that each pass's answer can be said in words
+module _ (G : Geometry) (K : Good G) (bad : List ℕ) where
   -- with c counted before
   abbrev MoreWhen : ℕ → ℕ → State → Answer → Type 0
   MoreWhen m c st (Moved x) = (k : ℕ) × (x ≡ c + k) × Counts G bad m st k
   MoreWhen m c st (Refused e) = PassFails G bad m st e
 
-  more-only : (m c : ℕ) (st : State) → MoreWhen m c st (collectMore G bad m c st .answer)
+  more-only : (m c : ℕ) (st : State) → Counted G (st .tab) → Fit G (st .flash) → MoreWhen m c st (collectMore G bad m c st .answer)
   unfolding collectMore
-  more-only zero c st = (0, omega arith, record { here = st; ops = []; passes = start; end = inl refl })
-  more-only (suc m) c st = go (collect G bad st .answer) refl (more-only m (suc c) (collect G bad st .st))
+  more-only zero c st S F = (0, omega arith, record { here = st; ops = []; passes = start; end = inl refl })
+  more-only (suc m) c st S F = go (collect G bad st .answer) refl (more-only m (suc c) (collect G bad st .st) (C .sound) (C .fit))
     where
+      C : Kept G st (collect G bad st)
+      C = collected G K bad st S F
+
       after : State
       after = collect G bad st .st
 
@@ -599,51 +605,59 @@ module _ (G : Geometry) (bad : List ℕ) where
           here = st;
           ops = [];
           passes = start;
-          end = inr (omega arith, record { moved = j; answer = q; queue-empty = eqb-true _ _ e });
+          end = inr (omega arith, record { answer = (refl, pass-exactly G K bad st S F (Moved j) .only q .1); queue-empty = eqb-true _ _ e });
         },
       )
       next q false e ih = lift q (eqb-false _ _ e) (collectMore G bad m (suc c) after .answer) ih
 
       go : (a : Answer) → collect G bad st .answer ≡ a → MoreWhen m (suc c) after (collectMore G bad m (suc c) after .answer)
-          → MoreWhen (suc m) c st (goOn a (collect G bad st) (rest m c st) .answer)
+          → MoreWhen (suc m) c st (goOn a (collect G bad st) (rest G bad m c st) .answer)
       go (Moved j) q ih = next q (eqb (after .tab .queued) 0) refl ih
       go (Refused e) q ih =
           subst (MoreWhen (suc m) c st) (sym q)
-          (record { count = 0; here = st; ops = []; passes = start; fewer = omega arith; refused = q })
+          (record { count = 0; here = st; ops = []; passes = start; fewer = omega arith; refused = pass-exactly G K bad st S F (Refused e) .only q })
 
-  fails-at : {k : ℕ} {st here : State} {ops : List Op} → Passes G bad k st here ops → (m c : ℕ) → k < m → (e : Cause) → collect G bad here .answer ≡ Refused e
-      → collectMore G bad m c st .answer ≡ Refused e
-  fails-at start zero c h e q = absurd (omega arith)
-  fails-at {st = st} start (suc m) c h e q = more-refused m c st q
-  fails-at (pass p n i) zero c h e q = absurd (omega arith)
-  fails-at {st = st} (pass p n i) (suc m) c h e q = more-next m c st p n ∙ fails-at i m (suc c) (omega arith) e q
+  fails-at : {k : ℕ} {st here : State} {ops : List Op} → Passes G bad k st here ops → Counted G (st .tab) → Fit G (st .flash)
+      → (m c : ℕ) → k < m → (e : Cause) → PassWhen G bad here (Refused e) → collectMore G bad m c st .answer ≡ Refused e
+  fails-at start S F zero c h e q = absurd (omega arith)
+  fails-at {st = st} start S F (suc m) c h e q = more-refused G bad m c st (pass-exactly G K bad st S F (Refused e) .whenever q)
+  fails-at (pass p n i) S F zero c h e q = absurd (omega arith)
+  fails-at {st = st} (pass p n i) S F (suc m) c h e q =
+      let C : Kept G st (collect G bad st) = collected G K bad st S F in
+      more-next G bad m c st p n ∙ fails-at i (C .sound) (C .fit) m (suc c) (omega arith) e q
 
-  counts-to : {k : ℕ} {st here : State} {ops : List Op} → Passes G bad k st here ops → (m c : ℕ) → (k ≡ m) ⊎ ((k < m) × LastPass G bad here)
-      → collectMore G bad m c st .answer ≡ Moved (c + k)
+  counts-to : {k : ℕ} {st here : State} {ops : List Op} → Passes G bad k st here ops → Counted G (st .tab) → Fit G (st .flash)
+      → (m c : ℕ) → (k ≡ m) ⊎ ((k < m) × LastPass G bad here) → collectMore G bad m c st .answer ≡ Moved (c + k)
   unfolding collectMore
-  counts-to start zero c h = let e : c ≡ c + 0 = omega arith in ap Moved e
-  counts-to start (suc m) c (inl h) = absurd (omega arith)
-  counts-to {st = st} start (suc m) c (inr h) = let e : c ≡ c + 0 = omega arith in more-ended m c st (h .1 .answer) (h .1 .queue-empty) ∙ ap Moved e
-  counts-to (pass p n i) zero c (inl h) = absurd (omega arith)
-  counts-to (pass p n i) zero c (inr h) = absurd (omega (arith, h .0))
-  counts-to {st = st} (pass {k} p n i) (suc m) c (inl h) =
+  counts-to start S F zero c h = let e : c ≡ c + 0 = omega arith in ap Moved e
+  counts-to start S F (suc m) c (inl h) = absurd (omega arith)
+  counts-to {st = st} start S F (suc m) c (inr h) =
+      let e : c ≡ c + 0 = omega arith in
+      more-ended G bad m c st (pass-exactly G K bad st S F (Moved 0) .whenever (h .1 .answer)) (h .1 .queue-empty) ∙ ap Moved e
+  counts-to (pass p n i) S F zero c (inl h) = absurd (omega arith)
+  counts-to (pass p n i) S F zero c (inr h) = absurd (omega (arith, h .0))
+  counts-to {st = st} (pass {k} p n i) S F (suc m) c (inl h) =
+      let C : Kept G st (collect G bad st) = collected G K bad st S F in
       let e : suc c + k ≡ c + suc k = omega arith in
-      more-next m c st p n ∙ counts-to i m (suc c) (inl (omega arith)) ∙ ap Moved e
-  counts-to {st = st} (pass {k} p n i) (suc m) c (inr h) =
+      more-next G bad m c st p n ∙ counts-to i (C .sound) (C .fit) m (suc c) (inl (omega arith)) ∙ ap Moved e
+  counts-to {st = st} (pass {k} p n i) S F (suc m) c (inr h) =
+      let C : Kept G st (collect G bad st) = collected G K bad st S F in
       let e : suc c + k ≡ c + suc k = omega arith in
-      more-next m c st p n ∙ counts-to i m (suc c) (inr (omega (arith, h .0), h .1)) ∙ ap Moved e
+      more-next G bad m c st p n ∙ counts-to i (C .sound) (C .fit) m (suc c) (inr (omega (arith, h .0), h .1)) ∙ ap Moved e
 
-  more-exactly : (m : ℕ) (st : State) (a : Answer) → Exactly (collectMore G bad m 0 st .answer ≡ a) (ListWhen G bad m st a)
-  more-exactly m st a = record { only = λ e. plain a (subst (MoreWhen m 0 st) e (more-only m 0 st)); whenever = back-to a }
+  more-exactly : (m : ℕ) (st : State) → Counted G (st .tab) → Fit G (st .flash) → (a : Answer)
+      → Exactly (collectMore G bad m 0 st .answer ≡ a) (ListWhen G bad m st a)
+  more-exactly m st S F a = record { only = λ e. plain a (subst (MoreWhen m 0 st) e (more-only m 0 st S F)); whenever = back-to a }
     where
       plain : (a : Answer) → MoreWhen m 0 st a → ListWhen G bad m st a
       plain (Moved x) h = let e : h .0 ≡ x = omega (arith, h .1) in subst (Counts G bad m st) e (h .2)
       plain (Refused c) h = h
 
       back-to : (a : Answer) → ListWhen G bad m st a → collectMore G bad m 0 st .answer ≡ a
-      back-to (Moved x) h = let e : 0 + x ≡ x = omega arith in counts-to (h .passes) m 0 (h .end) ∙ ap Moved e
-      back-to (Refused c) h = fails-at (h .passes) m 0 (h .fewer) c (h .refused)
+      back-to (Moved x) h = let e : 0 + x ≡ x = omega arith in counts-to (h .passes) S F m 0 (h .end) ∙ ap Moved e
+      back-to (Refused c) h = fails-at (h .passes) S F m 0 (h .fewer) c (h .refused)
 
+module _ (G : Geometry) (bad : List ℕ) where
   -- at the entries: every answer but 22 and 117
   pub collect-exactly : (s : List (List ℕ)) (r : Recorder) (a : Answer) → Plain G bad a
       → Exactly (run G bad (Collect s) r .answer ≡ a) (Passed G bad (Collect s) r × PassWhen G bad (stateIn G r) a)
@@ -657,23 +671,34 @@ module _ (G : Geometry) (bad : List ℕ) where
   pub list-exactly : (m : ℕ) (s : List (List ℕ)) (r : Recorder) (a : Answer) → Plain G bad a
       → Exactly (run G bad (CollectList m s) r .answer ≡ a) (Passed G bad (CollectList m s) r × ListWhen G bad m (stateIn G r) a)
   unfolding deed collectList
-  list-exactly m s r a p = in-words G bad (CollectList m s) r a p (λ _. more-exactly m (stateIn G r) a)
+  list-exactly m s r a p =
+      in-words G bad (CollectList m s) r a p
+      (λ P.
+      let X : Fits G bad (lent r [] s) = fits-of G bad s r (P .sizes-right) (P .sound) in
+      more-exactly G (X .good) bad m (stateIn G r) (X .counted) (X .fit) a)
 
   pub threshold-exactly : (t m : ℕ) (s : List (List ℕ)) (r : Recorder) (a : Answer) → Plain G bad a
       → Exactly (run G bad (CollectThreshold t m s) r .answer ≡ a) (Passed G bad (CollectThreshold t m s) r × ThresholdWhen G bad t m (stateIn G r) a)
   unfolding deed
-  threshold-exactly t m s r a p = in-words G bad (CollectThreshold t m s) r a p (λ _. record { only = there (less? t (total (st .tab .free))); whenever = back-to })
+  threshold-exactly t m s r a p =
+      in-words G bad (CollectThreshold t m s) r a p
+      (λ P.
+      let X : Fits G bad (lent r [] s) = fits-of G bad s r (P .sizes-right) (P .sound) in
+      below (more-exactly G (X .good) bad m (stateIn G r) (X .counted) (X .fit) a))
     where
       st : State
       st = stateIn G r
 
-      there : (t < total (st .tab .free)) ⊎ (total (st .tab .free) ≤ t) → collectThreshold G bad t m st .answer ≡ a → ThresholdWhen G bad t m st a
-      there (inl h) e = inl (h, sym e ∙ ap (λ (y : Out). y .answer) (threshold-above G bad t m st h))
-      there (inr h) e = inr (h, more-exactly m st a .only (sym (ap (λ (y : Out). y .answer) (threshold-below G bad t m st h)) ∙ e))
+      below : Exactly (collectMore G bad m 0 st .answer ≡ a) (ListWhen G bad m st a) → Exactly (collectThreshold G bad t m st .answer ≡ a) (ThresholdWhen G bad t m st a)
+      below E = record { only = there (less? t (total (st .tab .free))); whenever = back-to }
+        where
+          there : (t < total (st .tab .free)) ⊎ (total (st .tab .free) ≤ t) → collectThreshold G bad t m st .answer ≡ a → ThresholdWhen G bad t m st a
+          there (inl h) e = inl (h, sym e ∙ ap (λ (y : Out). y .answer) (threshold-above G bad t m st h))
+          there (inr h) e = inr (h, E .only (sym (ap (λ (y : Out). y .answer) (threshold-below G bad t m st h)) ∙ e))
 
-      back-to : ThresholdWhen G bad t m st a → collectThreshold G bad t m st .answer ≡ a
-      back-to (inl h) = ap (λ (y : Out). y .answer) (threshold-above G bad t m st (h .0)) ∙ sym (h .1)
-      back-to (inr h) = ap (λ (y : Out). y .answer) (threshold-below G bad t m st (h .0)) ∙ more-exactly m st a .whenever (h .1)
+          back-to : ThresholdWhen G bad t m st a → collectThreshold G bad t m st .answer ≡ a
+          back-to (inl h) = ap (λ (y : Out). y .answer) (threshold-above G bad t m st (h .0)) ∙ sym (h .1)
+          back-to (inr h) = ap (λ (y : Out). y .answer) (threshold-below G bad t m st (h .0)) ∙ E .whenever (h .1)
 
 -- a device's refusals in words: "Programming a page whose mark is set", "a segment whose count has reached the limit", "at 0"
 pub program-refused : (G : Geometry) (g k : ℕ) (f : Flash) → Exactly (mayProgram G g k f ≡ false) ((at (f .marks) (g * G .p + k) ≢ 0) ⊎ (f .fuse ≡ 0))

@@ -19,10 +19,9 @@ use Rattle.model.specs.PageGc.{sorted, finishOf, drain, collectOf, collect, col
 use Rattle.model.specs.Checkpoint.{fresh, usedBy, word, long, words, wordAt, longAt, wordsAt, head, file, reasonOf, welcome, settleAll, restored}
 use Rattle.model.specs.Entry.{Recorder, recorder, unless, guarded, clean, formatting, opening, read, write, collection, listCollection, thresholdCollection, encoding, restoring}
 use Rattle.model.specs.History.{Call, Format, Open, Read, Write, Collect, CollectList, CollectThreshold, Encode, Restore, run, after, lit}
-use Rattle.model.specs.History.{Reached, by-opening, lost, Since, GivesBack}
+use Rattle.model.specs.History.{lost, Since, GivesBack}
 use Rattle.model.specs.History as history
 use Rattle.model.proofs.Guard.{good-test}
-use Rattle.model.proofs.Entry.{reached-sound}
 use Rattle.model.proofs.Witness as witness
 use Rattle.demands.specs.Left.{Leaves}
 use Rattle.demands.specs.Unit.{burnt, MarkedIn, Shows, Ever, start, cut, FromOpening, opens, calls, regains}
@@ -145,10 +144,9 @@ unfolding
     clearFrom findFrom find invalidate forget oldPage writeAt writePage sorted finishOf drain collectOf collect usedBy unless guarded clean
     formatting opening write collection
 seen =
-    let reached : Reached A bad unit = history.called (history.called (history.called (by-opening (after A bad Format any) refl) (put 0 1)) (put 4 2)) (put 0 3) in
     record {
       written = read-after-write A bad 1 2 2 (5 ∷ 6 ∷ []) (zeros 4 ∷ zeros 4 ∷ []) unit refl (zeros 4) (zeros 4 ∷ []) (omega arith) refl;
-      moved = read-behind-collection A bad (Collect gc) tt unit (reached-sound A bad reached) refl 4 4 (zeros 4) (zeros 4 ∷ []);
+      moved = read-behind-collection A bad unit 4 4 (zeros 4) (zeros 4 ∷ []) (Collect gc) tt;
     }
 
 -- at power on, before the file is restored

@@ -18,15 +18,16 @@ use Rattle.model.specs.Tables.{wordOf, pages}
 use Rattle.model.specs.Sound.{soundb, Mapped}
 use Rattle.model.specs.Device.{state, Out}
 use Rattle.model.specs.PageWrite.{nothing, holds, content, whole, oldPage, writePage}
-use Rattle.model.specs.Entry.{Recorder, Lent, lent, Outcome, outcome, unless, guarded, clean, stateOf, tablesOf, back, tablesFit, pageScratch, seenScratch, allFits, read, write, collecting, collection, listCollection, thresholdCollection}
+use Rattle.model.specs.Entry.{Recorder, Lent, lent, Outcome, outcome, unless, guarded, clean, stateOf, back, tablesFit, pageScratch, seenScratch, allFits, read, write, collecting, collection, listCollection, thresholdCollection}
 use Rattle.model.specs.History.{Call, Format, Open, Read, Write, Collect, CollectList, CollectThreshold, Encode, Restore, run, after, contentOf}
 use Rattle.model.proofs.Decide.{counted-test}
+use Rattle.model.proofs.Official.{counted-sound}
 use Rattle.model.proofs.Slots.{same?}
 use Rattle.model.proofs.View.{view-packed}
 use Rattle.model.proofs.Content.{content-empty, content-mapped}
 use Rattle.model.proofs.Write.{Own, Wrote, wrote, old-length}
 use Rattle.model.proofs.Guard.{each, test-good, test-tables, guarded-by, guarded-passes, unless-passes}
-use Rattle.model.proofs.Entry.{SoundIn, Fits, packed-in, counted-in, kept-sound, collect-content, list-content, threshold-content}
+use Rattle.model.proofs.Entry.{SoundIn, Fits, packed-in, counted-in, collect-content, list-content, threshold-content}
 use Rattle.model.proofs.Working.{Counted}
 use Rattle.model.proofs.Collect.{Kept, collected, collected-list, collected-threshold}
 use Rattle.model.specs.Contract.{Fit}
@@ -139,23 +140,6 @@ by-collection P one list below (Encode b s) n = absurd n
 by-collection P one list below (Restore b s) n = absurd n
 
 module _ (G : Geometry) (bad : List ℕ) where
-  -- the flash's bytes keep their size
-  collecting-bytes : (x : Lent) (o : Out) → length (x .unit .flash .bytes) ≡ pages G * G .s
-      → (Good G → Counted G (tablesOf G x) → Fit G (x .unit .flash) → Kept G (stateOf G x) o)
-      → length (collecting G bad x o .left .unit .flash .bytes) ≡ pages G * G .s
-  collecting-bytes x o h keeps =
-      guarded-by (λ y. length (y .left .unit .flash .bytes) ≡ pages G * G .s) _ _ _ _ x _ h h
-      (λ a b _ _. let X : Fits G bad x = all-passed G bad _ x a b in keeps (X .good) (X .counted) (X .fit) .fit .bytes)
-
-  collected-bytes : (r : Recorder) → length (r .flash .bytes) ≡ pages G * G .s → (c : Call) → Collects c
-      → length (after G bad c r .flash .bytes) ≡ pages G * G .s
-  unfolding collection listCollection thresholdCollection
-  collected-bytes r h =
-      by-collection (λ c. length (after G bad c r .flash .bytes) ≡ pages G * G .s)
-      (λ s. collecting-bytes (lent r [] s) _ h (λ K S F. collected G K bad _ S F))
-      (λ m s. collecting-bytes (lent r [] s) _ h (λ K S F. collected-list G K bad m _ S F))
-      (λ t m s. collecting-bytes (lent r [] s) _ h (λ K S F. collected-threshold G K bad t m _ S F))
-
   pub collected-content : (r : Recorder) (l : ℕ) (c : Call) → Collects c → contentOf G (after G bad c r) l ≡ contentOf G r l
   collected-content r l =
       by-collection (λ c. contentOf G (after G bad c r) l ≡ contentOf G r l)
@@ -163,12 +147,39 @@ module _ (G : Geometry) (bad : List ℕ) where
       (λ m s. list-content G bad r s l m)
       (λ t m s. threshold-content G bad r s l t m)
 
-  -- a collection, finished or refused, is not seen by any read
-  pub read-behind-collection : (c : Call) → Collects c → (r : Recorder) → SoundIn G r → length (r .flash .bytes) ≡ pages G * G .s
-      → (sector len : ℕ) (o : List ℕ) (s : List (List ℕ)) → Shows (run G bad (Read sector len o s) (after G bad c r)) (run G bad (Read sector len o s) r)
-  read-behind-collection c n r S b sector len o s =
-      read-by-content G bad sector len o s (after G bad c r) r (kept-sound G bad c r S) S (collected-bytes r b c n) b
-      (collected-content r (logicalPage G sector) c n)
+  module _ (r : Recorder) (sector len : ℕ) (b : List ℕ) (t : List (List ℕ)) where
+    abbrev shows : Recorder → Outcome
+    shows r′ = run G bad (Read sector len b t) r′
+
+    -- refused by a test, the unit is the same; else it was sound and of the right sizes, and is so still
+    collecting-unseen : (s : List (List ℕ)) (o : Out) → ((l : ℕ) → contentOf G (collecting G bad (lent r [] s) o .left .unit) l ≡ contentOf G r l)
+        → (Good G → Counted G (tab G r) → Fit G (r .flash) → Kept G (stateIn G r) o)
+        → Shows (shows (collecting G bad (lent r [] s) o .left .unit)) (shows r)
+    collecting-unseen s o same keeps =
+        guarded-by (λ y. ((l : ℕ) → contentOf G (y .left .unit) l ≡ contentOf G r l) → Shows (shows (y .left .unit)) (shows r)) _ _ _ _ (lent r [] s) _
+        (λ _. unchanged)
+        (λ _. unchanged)
+        (λ a b _ _ e.
+        let X : Fits G bad (lent r [] s) = all-passed G bad _ (lent r [] s) a b in
+        let k : Kept G (stateIn G r) o = keeps (X .good) (X .counted) (X .fit) in
+        read-by-content G bad sector len _ t (back G (lent r [] s) o .left .unit) r (packed-in G (o .st .tab) (o .st .flash) (k .sound))
+        (record { words-size = X .words-size; used-size = X .used-size; sound = counted-sound G (tab G r) (X .counted) })
+        (k .fit .bytes)
+        (X .fit .bytes)
+        (e (logicalPage G sector)))
+        same
+      where
+        unchanged : Shows (shows r) (shows r)
+        unchanged = record { answer = refl; buffer = refl; scratch = refl }
+
+    -- a collection, finished or refused, over whatever was lent, is not seen by any read
+    pub read-behind-collection : (c : Call) → Collects c → Shows (shows (after G bad c r)) (shows r)
+    unfolding collection listCollection thresholdCollection
+    read-behind-collection =
+        by-collection (λ c. Shows (shows (after G bad c r)) (shows r))
+        (λ s. collecting-unseen s _ (λ l. collect-content G bad r s l) (λ K S F. collected G K bad _ S F))
+        (λ m s. collecting-unseen s _ (λ l. list-content G bad r s l m) (λ K S F. collected-list G K bad m _ S F))
+        (λ t m s. collecting-unseen s _ (λ l. threshold-content G bad r s l t m) (λ K S F. collected-threshold G K bad t m _ S F))
 
 -- ---- behind a write
 

@@ -25,7 +25,7 @@ use Rattle.model.specs.Entry.{formatting, opening, read, write, collection, lis
 use Rattle.model.specs.History.{Call, Format, Open, Read, Write, Collect, CollectList, CollectThreshold, Encode, Restore, run}
 use Rattle.model.proofs.Guard.{unless-by, guarded-by}
 use Rattle.demands.proofs.Unchanged.{Pass, collect-pass, more-pass, threshold-pass, formats-all}
-use Rattle.demands.specs.When.{Positive, Negative}
+use Rattle.demands.specs.When.{IsCount, IsRefusal}
 
 -- "and the reason is the answer": 1 to 9
 abbrev pub Fair : Answer → Type 0
@@ -110,14 +110,14 @@ module _ (G : Geometry) (bad : List ℕ) where
   fair (Encode b s) r = guarded-by FairOut _ _ _ _ (lent r b s) _ tt tt (λ _ _ _ _. tt)
   fair (Restore b s) r = guarded-by FairOut _ _ _ _ (lent r [] s) _ tt tt (λ _ _ _ _. restored-fair b _ refl (lent r [] s) _ tt)
 
-  pub signs : (c : Call) (r : Recorder) → Positive (run G bad c r .answer) ⊎ Negative (run G bad c r .answer)
+  pub signs : (c : Call) (r : Recorder) → IsCount (run G bad c r .answer) ⊎ IsRefusal (run G bad c r .answer)
   signs c r = go (run G bad c r .answer) (fair c r)
     where
-      past : (k : ℕ) → 1 ≤ k → Negative (Refused (Reason k))
+      past : (k : ℕ) → 1 ≤ k → IsRefusal (Refused (Reason k))
       past zero h = absurd (omega arith)
       past (suc k) h = record { cause = Reason (suc k); below = k; answer = refl; refusal-is = refl; number-is = refl }
 
-      go : (a : Answer) → Fair a → Positive a ⊎ Negative a
+      go : (a : Answer) → Fair a → IsCount a ⊎ IsRefusal a
       go (Moved m) h = inl (record { moved = m; answer = refl; number-is = refl })
       go (Refused Wrong) h = inr (record { cause = Wrong; below = 21; answer = refl; refusal-is = refl; number-is = refl })
       go (Refused Unsound) h = inr (record { cause = Unsound; below = 116; answer = refl; refusal-is = refl; number-is = refl })

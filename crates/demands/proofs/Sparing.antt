@@ -46,8 +46,8 @@ module _ (G : Geometry) (M : List ℕ) where
   spares-first (suc i) (EraseSeg g c ∷ os) h = (h .0, spares-first i os (h .1))
 
 -- a sound victim without listed pages holds no mapped page
-pub drained-elsewhere : (G : Geometry) (t : Tables) → Counted G t → at (t .lens) (victim t) ≡ 0 → 0 < t .queued → Elsewhere G (t .map) (victim t)
-drained-elsewhere G t S e some l m = not-here G t S (victim t) (victim-seg G t S some) e l m
+pub drained-elsewhere : (G : Geometry) (t : Tables) → Counted G t → (0 < t .queued → at (t .lens) (victim t) ≡ 0) → 0 < t .queued → Elsewhere G (t .map) (victim t)
+drained-elsewhere G t S e some l m = not-here G t S (victim t) (victim-seg G t S some) (e some) l m
 
 module _ (G : Geometry) (bad : List ℕ) where
   -- a write does nothing, or programs a page: what holds of both holds of its operations
@@ -151,7 +151,7 @@ module _ (G : Geometry) (bad : List ℕ) where
       go true q = inl (eqb-true _ _ q, refl)
       go false q =
           subst (λ o. Goal (goOn (o .answer) o (λ t. finishOf G (victim (tab G r)) t)))
-          (sym (drain-idle G.p (victim (tab G r)) (state (taken (tab G r)) (r .flash)) e))
+          (sym (drain-idle G.p (victim (tab G r)) (state (taken (tab G r)) (r .flash)) (let n : tab G r .queued ≡ 0 → ⊥ = eqb-false _ _ q in e (omega arith))))
           (erase (mayErase G (victim (tab G r)) (r .flash)) (taken (tab G r)))
 
   pub collects-one : (r : Recorder) (s : List (List ℕ)) → Drained G r → length (run G bad (Collect s) r .ops) ≤ 1

@@ -25,7 +25,7 @@ use Rattle.model.proofs.Sealed.{comes-back}
 use Rattle.model.proofs.Entry.{Begun}
 use Rattle.model.proofs.Cut.{Encoded, encoded, restores}
 use Rattle.demands.specs.Given.{tab}
-use Rattle.demands.specs.Protocol.{Saved, Careful, accepts, Drains, saved, calls, none, writes}
+use Rattle.demands.specs.Protocol.{Saved, Careful, accepts, Drains, saved, lends-fuse, calls, none, with-fuse, writes}
 use Rattle.demands.proofs.Protocol.{drained-next, protocol-restores, regained-careful, either-restores}
 use Rattle.demands.proofs.Draining.{drains, drains-all}
 
@@ -33,6 +33,7 @@ module _ (G : Geometry) (bad : List ℕ) where
   -- the writes of the draining are calls of the protocol: while it goes on, the old checkpoint stands
   pub drains-careful : {r₀ : Recorder} {file : List ℕ} {k : ℕ} {r r′ : Recorder} → Careful G bad r₀ file r → Drains G bad k r r′ → Careful G bad r₀ file r′
   drains-careful h none = h
+  drains-careful h (with-fuse f t) = drains-careful (lends-fuse h f) t
   drains-careful h (writes sector d s E t) = drains-careful (calls h (Write sector 0 d s) tt) t
 
   -- The victim of r is drained, which leaves r₁; r₁ is encoded and the file stored; then it is collected, and the power goes at any operation of

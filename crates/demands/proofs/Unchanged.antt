@@ -1,4 +1,5 @@
--- 01's rows whose third column is "nothing changed" (22, 117, 61, a write's 14, a restore's reasons): nothing that was lent has changed. And
+-- 01's rows whose third column is "nothing changed" (22, 117, 61, a write's 14, a restore's reasons): nothing that was lent has changed, and no device
+-- operation was done. And
 -- "zero scratch is handed back zero".
 use Prim.Native.Nat.{ℕ, zero, suc}
 use mathlib.Core.Path.{_≡_, refl, sym, ap, _∙_, subst}
@@ -135,13 +136,13 @@ module _ (G : Geometry) (bad : List ℕ) where
 
   module _ (k : Cause) (q : Quiet k) where
     abbrev Stays : Lent → Outcome → Type 0
-    Stays x o = o .answer ≡ Refused k → o .left ≡ x
+    Stays x o = o .answer ≡ Refused k → (o .left ≡ x) × (o .ops ≡ [])
 
     none : {A : Type 0} (a : Answer) → Pass a → a ≡ Refused k → A
     none a h e = absurd (loud k q (subst Pass e h))
 
     collecting-stays : (x : Lent) (o : Out) → Pass (o .answer) → Stays x (collecting G bad x o)
-    collecting-stays x o h = guarded-by (Stays x) _ _ _ _ x _ (λ _. refl) (λ _. refl) (λ _ _ _ _ e. none (o .answer) h e)
+    collecting-stays x o h = guarded-by (Stays x) _ _ _ _ x _ (λ _. (refl, refl)) (λ _. (refl, refl)) (λ _ _ _ _ e. none (o .answer) h e)
 
     abbrev Loudly : Answer → Type 0
     Loudly (Moved m) = Unit {0}
@@ -159,36 +160,36 @@ module _ (G : Geometry) (bad : List ℕ) where
 
         go : (f : Found) → Stays x (back G x (writeAt G f l off c (stateOf G x)))
         go Nothing e =
-            ap (λ z. lent (recorder z (x .unit .used) (x .unit .flash)) (x .buffer) (x .scratch)) (packed-view G (x .unit .words) (x .unit .used) w)
+            (ap (λ z. lent (recorder z (x .unit .used) (x .unit .flash)) (x .buffer) (x .scratch)) (packed-view G (x .unit .words) (x .unit .used) w), refl)
         go (At g i) e = at-page g i (mayProgram G g i (x .unit .flash)) e
 
     write-stays : (sector len : ℕ) (d : List ℕ) (x : Lent) → Stays x (write G bad sector len d x)
     unfolding write
     write-stays sector len d x =
-        guarded-by (Stays x) _ _ _ _ x _ (λ _. refl) (λ _. refl)
+        guarded-by (Stays x) _ _ _ _ x _ (λ _. (refl, refl)) (λ _. (refl, refl))
         (λ a _ _ _.
         let t : (i : ℕ) → _ = each (allFits G bad (pageScratch G ∷ seenScratch G ∷ []) x ∷ leb len (length d) ∷ []) a in
         let u : (i : ℕ) → _ = each (good? G ∷ tablesFit G x ∷ flashFits G (x .unit .flash) ∷ eqb (length bad) (G .n) ∷ clean (pageScratch G ∷ seenScratch G ∷ []) (x .scratch) ∷ []) (t 0) in
         inner-stays x (tables-test G x (u 1) .0) (logicalPage G sector) (offset G sector) (take len d))
 
-    pub stays : (c : Call) (r : Recorder) → run G bad c r .answer ≡ Refused k → run G bad c r .left ≡ lentTo c r
+    pub stays : (c : Call) (r : Recorder) → run G bad c r .answer ≡ Refused k → (run G bad c r .left ≡ lentTo c r) × (run G bad c r .ops ≡ [])
     unfolding formatting opening read encoding restoring collection listCollection thresholdCollection collectList
     stays Format r =
-        guarded-by (Stays (lent r [] [])) _ _ _ _ _ _ (λ _. refl) (λ _. refl)
+        guarded-by (Stays (lent r [] [])) _ _ _ _ _ _ (λ _. (refl, refl)) (λ _. (refl, refl))
         (λ _ _ _ _ e. none (Moved 0) tt (sym (formats-all (G .n) 0 (stateOf G (lent r [] []))) ∙ e))
-    stays Open r = guarded-by (Stays (lent r [] [])) _ _ _ _ _ _ (λ _. refl) (λ _. refl) (λ _ _ _ _ e. none (Moved 0) tt e)
+    stays Open r = guarded-by (Stays (lent r [] [])) _ _ _ _ _ _ (λ _. (refl, refl)) (λ _. (refl, refl)) (λ _ _ _ _ e. none (Moved 0) tt e)
     stays (Read sector len o s) r =
-        guarded-by (Stays (lent r o s)) _ _ _ _ _ _ (λ _. refl) (λ _. refl)
-        (λ _ _ _ _. unless-by (Stays (lent r o s)) _ Unmapped (lent r o s) _ (λ _. refl) (λ _ e. none (Moved len) tt e))
+        guarded-by (Stays (lent r o s)) _ _ _ _ _ _ (λ _. (refl, refl)) (λ _. (refl, refl))
+        (λ _ _ _ _. unless-by (Stays (lent r o s)) _ Unmapped (lent r o s) _ (λ _. (refl, refl)) (λ _ e. none (Moved len) tt e))
     stays (Write sector len d s) r = write-stays sector len d (lent r [] s)
     stays (Collect s) r = collecting-stays (lent r [] s) _ (collect-pass (stateOf G (lent r [] s)))
     stays (CollectList m s) r = collecting-stays (lent r [] s) _ (more-pass m 0 (stateOf G (lent r [] s)))
     stays (CollectThreshold t m s) r = collecting-stays (lent r [] s) _ (threshold-pass t m (stateOf G (lent r [] s)))
     stays (Encode b s) r =
-        guarded-by (Stays (lent r b s)) _ _ _ _ _ _ (λ _. refl) (λ _. refl) (λ _ _ _ _ e. none (Moved (fileSize G)) tt e)
+        guarded-by (Stays (lent r b s)) _ _ _ _ _ _ (λ _. (refl, refl)) (λ _. (refl, refl)) (λ _ _ _ _ e. none (Moved (fileSize G)) tt e)
     stays (Restore b s) r =
-        guarded-by (Stays (lent r [] s)) _ _ _ _ _ _ (λ _. refl) (λ _. refl)
-        (λ _ _ _ _. unless-by (Stays (lent r [] s)) _ (Reason (reasonOf G b)) (lent r [] s) _ (λ _. refl) (λ _ e. none (Moved 0) tt e))
+        guarded-by (Stays (lent r [] s)) _ _ _ _ _ _ (λ _. (refl, refl)) (λ _. (refl, refl))
+        (λ _ _ _ _. unless-by (Stays (lent r [] s)) _ (Reason (reasonOf G b)) (lent r [] s) _ (λ _. (refl, refl)) (λ _ e. none (Moved 0) tt e))
 
   -- ---- scratch comes back as it was lent, whatever the answer
 

@@ -26,7 +26,7 @@ tab G r = view G (r .words) (r .used)
 abbrev pub stateIn : Geometry → Recorder → State
 stateIn G r = state (tab G r) (r .flash)
 
--- all that a call is lent of what it may change
+-- the whole recorder, and the buffer and scratch lent to the call
 abbrev pub lentTo : Call → Recorder → Lent
 lentTo Format r = lent r [] []
 lentTo Open r = lent r [] []

@@ -1,8 +1,8 @@
 -- 01's table, its third column, "Left behind": what each refusal leaves.
-use Prim.Native.Nat.{ℕ, _+_, _*_, _-_, _<_}
+use Prim.Native.Nat.{ℕ, _+_, _*_, _-_, _≤_, _<_}
 use mathlib.Core.Path.{_≡_}
-use mathlib.Core.Bool.{false}
-use mathlib.Core.Logic.{_≢_}
+use mathlib.Core.Bool.{true, false}
+use mathlib.Core.Logic.{_⊎_, _≢_}
 use mathlib.Core.List.{List, [], _∷_, _++_}
 use lib.ListN.{length, set, take, drop}
 use Rattle.model.specs.declared.Geometry.{Geometry}
@@ -11,15 +11,15 @@ use Rattle.model.specs.declared.Answer.the-variants.{Moved, Refused}
 use Rattle.model.specs.declared.Cause.{Cause}
 use Rattle.model.specs.declared.Cause.the-variants.{Wrong, Unsound, Unmapped, NoRoom, Device, CopyNoRoom, CopyDevice, Erase, Reason}
 use Rattle.model.specs.declared.Found.the-variants.{At}
-use Rattle.model.specs.Lists.{occ}
+use Rattle.model.specs.Lists.{occ, total}
 use Rattle.model.specs.Tables.{at, queueOf, listOf}
-use Rattle.model.specs.Device.{Op, Program, EraseSeg, State, state, mayProgram, mayErase, performAll}
+use Rattle.model.specs.Device.{Op, Program, EraseSeg, State, state, mayProgram, mayErase, raised, erased, performAll}
 use Rattle.model.specs.PageMap.{find}
 use Rattle.model.specs.PageWrite.{content}
-use Rattle.model.specs.PageGc.{sorted, victim, taken, copyOne}
+use Rattle.model.specs.PageGc.{sorted, victim, taken, reset, unflag, copyOne}
 use Rattle.model.specs.Entry.{Recorder, Outcome}
-use Rattle.model.specs.History.{Call}
-use Rattle.demands.specs.Given.{stateIn, lentTo}
+use Rattle.model.specs.History.{Call, Format, Open, Read, Write, Collect, CollectList, CollectThreshold, Encode, Restore}
+use Rattle.demands.specs.Given.{stateIn, lentTo, TablesFit}
 use Rattle.demands.specs.When.{NoneFree, Copies, Passes}
 
 -- the rows with "nothing changed": 22, 117, 61, a write's 14, a restore's reasons
@@ -73,7 +73,7 @@ Programs (Program g k page ∷ os) = Programs os
 Programs (EraseSeg g c ∷ os) = ⊥
 
 -- "finished copies .. stand". What k of them out of segment v leave: no content changed, the flash changed by k programmings alone, v's list without
--- its last k, v as full as it was, and the queue and every flag as they were
+-- its last k, v full, and the queue and every flag as they were
 pub record Stand (G : Geometry) (v k : ℕ) (st st′ : State) (ops : List Op) : Type 0 where
   pub contents : (l : ℕ) → content G st′ l ≡ content G st l
   pub performs : st′ .flash ≡ performAll G ops (st .flash)
@@ -106,8 +106,8 @@ pub record Off (st st′ : State) : Type 0 where
   pub flag : at (st′ .tab .flags) (victim (st .tab)) ≡ 1
   pub flags : st′ .tab .flags ≡ st .tab .flags
 
--- no content changed, and the flash by the listed operations alone
-pub record Same (G : Geometry) (st st′ : State) (ops : List Op) : Type 0 where
+-- no content changed, and the flash changed by the listed operations alone
+pub record ContentKept (G : Geometry) (st st′ : State) (ops : List Op) : Type 0 where
   pub contents : (l : ℕ) → content G st′ l ≡ content G st l
   pub performs : st′ .flash ≡ performAll G ops (st .flash)
 
@@ -121,7 +121,7 @@ pub record CopyRefused (G : Geometry) (bad : List ℕ) (c : Cause) (st st′ : S
   pub refused : copyOne G bad (victim (st .tab)) here .answer ≡ Refused c
   pub last : CopyEnds G bad here st′ c
   pub victim-off : Off st st′
-  pub same : Same G st st′ ops
+  pub kept : ContentKept G st st′ ops
 
 -- 5: "all copied ..; victim off the queue, flag set, not reset; the rest sorted"
 pub record EraseRefused (G : Geometry) (bad : List ℕ) (st st′ : State) (ops : List Op) : Type 0 where
@@ -131,11 +131,25 @@ pub record EraseRefused (G : Geometry) (bad : List ℕ) (st st′ : State) (ops 
   pub refused : mayErase G (victim (st .tab)) (st′ .flash) ≡ false
   pub not-reset : (k : ℕ) → k < G.p → at (st′ .tab .used) (victim (st .tab) * G.p + k) ≡ 1
   pub victim-off : Off st st′
-  pub same : Same G st st′ ops
+  pub kept : ContentKept G st st′ ops
+
+-- 0: all copied, then "erase, reset the record, clear the flag": free p, valid 0, no list, no use mark; the rest of the queue sorted
+pub record Finished (G : Geometry) (bad : List ℕ) (st st′ : State) (ops : List Op) : Type 0 where
+  pub here : State
+  pub copied : List Op
+  pub some : 0 < st .tab .queued
+  pub copies : Copies G bad (victim (st .tab)) (at (st .tab .lens) (victim (st .tab))) (state (taken (st .tab)) (st .flash)) here
+  pub stand : Stand G (victim (st .tab)) (at (st .tab .lens) (victim (st .tab))) (state (taken (st .tab)) (st .flash)) here copied
+  pub erase : mayErase G (victim (st .tab)) (here .flash) ≡ true
+  pub ops-are : ops ≡ copied ++ (EraseSeg (victim (st .tab)) (raised G (victim (st .tab)) (here .flash)) ∷ [])
+  pub flash : st′ .flash ≡ erased G (victim (st .tab)) (here .flash)
+  pub tables : st′ .tab ≡ unflag G (victim (st .tab)) (reset G (victim (st .tab)) (here .tab))
+  pub rest : queueOf (st′ .tab) ≡ drop 1 (sorted (st .tab))
+  pub kept : ContentKept G st st′ ops
 
 -- how one collection ends, by its answer
 abbrev pub PassEnds : Geometry → List ℕ → State → State → List Op → Answer → Type 0
-PassEnds G bad st st′ ops (Moved m) = Unit {0}
+PassEnds G bad st st′ ops (Moved m) = ((st .tab .queued ≡ 0) × (st′ ≡ st) × (ops ≡ [])) ⊎ Finished G bad st st′ ops
 PassEnds G bad st st′ ops (Refused CopyNoRoom) = CopyRefused G bad CopyNoRoom st st′ ops
 PassEnds G bad st st′ ops (Refused CopyDevice) = CopyRefused G bad CopyDevice st st′ ops
 PassEnds G bad st st′ ops (Refused Erase) = EraseRefused G bad st st′ ops
@@ -146,35 +160,50 @@ PassEnds G bad st st′ ops (Refused NoRoom) = ⊥
 PassEnds G bad st st′ ops (Refused Device) = ⊥
 PassEnds G bad st st′ ops (Refused (Reason r)) = ⊥
 
--- "earlier passes stand": so many are finished, and then comes the pass that was refused with c
-pub record Earlier (G : Geometry) (bad : List ℕ) (c : Cause) (st st′ : State) (ops : List Op) : Type 0 where
+-- "earlier passes stand": fewer than m are finished, and then comes the pass that was refused with k
+pub record Earlier (G : Geometry) (bad : List ℕ) (m : ℕ) (k : Cause) (st st′ : State) (ops : List Op) : Type 0 where
   pub count : ℕ
+  pub fewer : count < m
   pub here : State
   pub before : List Op
   pub behind : List Op
   pub passes : Passes G bad count st here before
   pub ops-are : ops ≡ before ++ behind
-  pub last : PassEnds G bad here st′ behind (Refused c)
-  pub same : Same G st st′ ops
+  pub last : PassEnds G bad here st′ behind (Refused k)
+  pub kept : ContentKept G st st′ ops
 
 -- ---- every call
 
--- the rows with more than "nothing changed"
-abbrev pub Row : Geometry → List ℕ → Cause → State → State → List Op → Type 0
-Row G bad Device st st′ ops = Spent G bad st st′ × (ops ≡ [])
-Row G bad CopyNoRoom st st′ ops = Earlier G bad CopyNoRoom st st′ ops
-Row G bad CopyDevice st st′ ops = Earlier G bad CopyDevice st st′ ops
-Row G bad Erase st st′ ops = Earlier G bad Erase st st′ ops
-Row G bad Wrong st st′ ops = Unit {0}
-Row G bad Unsound st st′ ops = Unit {0}
-Row G bad Unmapped st st′ ops = Unit {0}
-Row G bad NoRoom st st′ ops = Unit {0}
-Row G bad (Reason r) st st′ ops = Unit {0}
+-- what a write leaves whose refusal is not one of "nothing changed"
+abbrev pub WriteLeft : Geometry → List ℕ → Cause → State → State → List Op → Type 0
+WriteLeft G bad Device st st′ ops = Spent G bad st st′ × (ops ≡ [])
+WriteLeft G bad Wrong st st′ ops = ⊥
+WriteLeft G bad Unsound st st′ ops = ⊥
+WriteLeft G bad Unmapped st st′ ops = ⊥
+WriteLeft G bad NoRoom st st′ ops = ⊥
+WriteLeft G bad CopyNoRoom st st′ ops = ⊥
+WriteLeft G bad CopyDevice st st′ ops = ⊥
+WriteLeft G bad Erase st st′ ops = ⊥
+WriteLeft G bad (Reason r) st st′ ops = ⊥
+
+-- and each call: only a write and the collections have such refusals
+abbrev pub Row : Geometry → List ℕ → Call → Cause → State → State → List Op → Type 0
+Row G bad (Write sector len d s) k st st′ ops = WriteLeft G bad k st st′ ops
+Row G bad (Collect s) k st st′ ops = PassEnds G bad st st′ ops (Refused k)
+Row G bad (CollectList m s) k st st′ ops = Earlier G bad m k st st′ ops
+Row G bad (CollectThreshold t m s) k st st′ ops = (total (st .tab .free) ≤ t) × Earlier G bad m k st st′ ops
+Row G bad Format k st st′ ops = ⊥
+Row G bad Open k st st′ ops = ⊥
+Row G bad (Read sector len o s) k st st′ ops = ⊥
+Row G bad (Encode b s) k st st′ ops = ⊥
+Row G bad (Restore b s) k st st′ ops = ⊥
 
 -- what a call c on the recorder r that was refused with k leaves
 pub record Leaves (G : Geometry) (bad : List ℕ) (c : Call) (r : Recorder) (k : Cause) (o : Outcome) : Type 0 where
-  pub unchanged : Quiet k → o .left ≡ lentTo c r
-  pub row : Row G bad k (stateIn G r) (stateIn G (o .left .unit)) (o .ops)
+  -- "nothing changed", and no device operation was done
+  pub unchanged : Quiet k → (o .left ≡ lentTo c r) × (o .ops ≡ [])
+  -- or what the row says, in tables of their size
+  pub row : (Quiet k → ⊥) → Row G bad c k (stateIn G r) (stateIn G (o .left .unit)) (o .ops) × TablesFit G (o .left .unit)
   -- and always
   pub buffer : o .left .buffer ≡ lentTo c r .buffer
   pub scratch : o .left .scratch ≡ lentTo c r .scratch

@@ -30,26 +30,26 @@ Gentle (CollectList m s) = ⊥
 Gentle (CollectThreshold t m s) = ⊥
 Gentle (Restore b s) = ⊥
 
--- the segment that the next collection takes has no listed page
+-- the segment that the next collection takes, if there is one, has no listed page
 abbrev pub Drained : Geometry → Recorder → Type 0
-Drained G r = at (tab G r .lens) (victim (tab G r)) ≡ 0
+Drained G r = 0 < tab G r .queued → at (tab G r .lens) (victim (tab G r)) ≡ 0
 
--- no copy was refused
-abbrev pub NoCopy : Cause → Type 0
-NoCopy CopyNoRoom = ⊥
-NoCopy CopyDevice = ⊥
-NoCopy Wrong = Unit {0}
-NoCopy Unsound = Unit {0}
-NoCopy Unmapped = Unit {0}
-NoCopy NoRoom = Unit {0}
-NoCopy Device = Unit {0}
-NoCopy Erase = Unit {0}
-NoCopy (Reason k) = Unit {0}
+-- not because a copy was refused
+abbrev pub NotByCopy : Cause → Type 0
+NotByCopy CopyNoRoom = ⊥
+NotByCopy CopyDevice = ⊥
+NotByCopy Wrong = Unit {0}
+NotByCopy Unsound = Unit {0}
+NotByCopy Unmapped = Unit {0}
+NotByCopy NoRoom = Unit {0}
+NotByCopy Device = Unit {0}
+NotByCopy Erase = Unit {0}
+NotByCopy (Reason k) = Unit {0}
 
 -- the victim erased and nothing else; nothing where there is none, or where the collection is refused, which is not by a copy
 abbrev pub Erases : Geometry → Recorder → Answer → List Op → Type 0
 Erases G r (Moved m) ops = ((tab G r .queued ≡ 0) × (ops ≡ [])) ⊎ (ops ≡ EraseSeg (victim (tab G r)) (raised G (victim (tab G r)) (r .flash)) ∷ [])
-Erases G r (Refused c) ops = NoCopy c × (ops ≡ [])
+Erases G r (Refused c) ops = NotByCopy c × (ops ≡ [])
 
 -- the file is what an encoding of r₀ that was not refused wrote
 pub record Saved (G : Geometry) (bad : List ℕ) (r₀ : Recorder) (file : List ℕ) : Type 0 where
@@ -76,7 +76,7 @@ Allows G M t (Restore b s) = ⊥
 abbrev pub Next : Geometry → (r₀ r : Recorder) → Call → Type 0
 Next G r₀ r c = Allows G (mapIn G r₀) (tab G r) c
 
--- r comes by the protocol of r₀, whose checkpoint is stored: allowed calls, whatever they answer, with any fuse; and where the power went at a
+-- r is reached from r₀, whose checkpoint is stored, by the protocol: allowed calls, whatever they answer, with any fuse; and where the power went at a
 -- device operation of one, or behind the last, and everything but the flash was lost, the file restored.
 pub data Careful (G : Geometry) (bad : List ℕ) (r₀ : Recorder) (file : List ℕ) : Recorder → Type 0 where
   saved : Careful G bad r₀ file r₀
@@ -95,7 +95,7 @@ pub record First (key : ℕ → ℕ) (xs : List ℕ) (v : ℕ) : Type 0 where
   pub earlier : (j : ℕ) → j < place → key v < key (at xs j)
 
 -- what k accepted writes leave: the same victim, its list k shorter, and every logical page's content
-pub record Emptied (G : Geometry) (k : ℕ) (r r′ : Recorder) : Type 0 where
+pub record Shortened (G : Geometry) (k : ℕ) (r r′ : Recorder) : Type 0 where
   pub same : victim (tab G r′) ≡ victim (tab G r)
   pub waits : tab G r′ .queued ≡ tab G r .queued
   pub fewer : at (tab G r′ .lens) (victim (tab G r)) + k ≡ at (tab G r .lens) (victim (tab G r))
@@ -107,13 +107,14 @@ accepts (Moved m) = 1
 accepts (Refused c) = 0
 
 -- Step 2, one write: while the victim has listed pages, no bytes to the last of them
-pub record Empties (G : Geometry) (sector : ℕ) (r : Recorder) : Type 0 where
+pub record DrainsNext (G : Geometry) (sector : ℕ) (r : Recorder) : Type 0 where
   pub more : at (tab G r .lens) (victim (tab G r)) ≢ 0
   pub last : logicalPage G sector ≡ lastOf G (victim (tab G r)) (tab G r)
 
--- Step 2: r′ comes of r by such writes, k of them accepted
+-- Step 2: r′ comes of r by such writes with any fuse, k of them accepted
 pub data Drains (G : Geometry) (bad : List ℕ) : ℕ → Recorder → Recorder → Type 0 where
   none : {r : Recorder} → Drains G bad 0 r r
-  writes : {k : ℕ} {r r′ : Recorder} → (sector : ℕ) (d : List ℕ) (s : List (List ℕ)) → Empties G sector r
+  with-fuse : {k : ℕ} {r r′ : Recorder} (f : ℕ) → Drains G bad k (lit f r) r′ → Drains G bad k r r′
+  writes : {k : ℕ} {r r′ : Recorder} → (sector : ℕ) (d : List ℕ) (s : List (List ℕ)) → DrainsNext G sector r
       → Drains G bad k (after G bad (Write sector 0 d s) r) r′
       → Drains G bad (accepts (run G bad (Write sector 0 d s) r .answer) + k) r r′

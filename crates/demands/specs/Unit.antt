@@ -69,7 +69,7 @@ Ordinary (CollectList m s) a = Unit {0}
 Ordinary (CollectThreshold t m s) a = Unit {0}
 Ordinary (Encode b s) a = Unit {0}
 
--- What may come of r₀, the weakest premise: public calls of every kind and answer, openings and restores of other files too, over tables that are lost,
+-- What may come of r₀, with fewer premises than `Since`: public calls of every kind and answer, openings and restores of other files too, over tables that are lost,
 -- swapped or edited at any time; any fuse; cuts at any operation. Only the erases begun spare the segments of pages mapped at r₀.
 pub data Ever (G : Geometry) (bad : List ℕ) (r₀ : Recorder) : Recorder → Type 0 where
   start : Ever G bad r₀ r₀
@@ -79,8 +79,8 @@ pub data Ever (G : Geometry) (bad : List ℕ) (r₀ : Recorder) : Recorder → T
   cut : {r : Recorder} → Ever G bad r₀ r → (c : Call) (i : ℕ) (f : Flash) → Spares G (mapIn G r₀) (take (suc i) (opsOf G bad c r))
       → Cut G i (opsOf G bad c r) (r .flash) f → (w u : List ℕ) → Ever G bad r₀ (recorder w u f)
 
--- A unit from an accepted opening on, with any fuse, regained by restores of its own checkpoints. An accepted formatting is left out: it erases under
--- the tables
+-- A unit from an accepted opening on, with any fuse, regained by restores of its own checkpoints, if no erase was begun in their mapped segments since.
+-- Left out are an accepted formatting, which erases under the tables, and every other accepted restore
 pub data FromOpening (G : Geometry) (bad : List ℕ) : Recorder → Type 0 where
   opens : (r : Recorder) → run G bad Open r .answer ≡ Moved 0 → FromOpening G bad (after G bad Open r)
   calls : {r : Recorder} → FromOpening G bad r → (c : Call) → Ordinary c (run G bad c r .answer) → FromOpening G bad (after G bad c r)

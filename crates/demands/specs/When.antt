@@ -59,7 +59,7 @@ pub record AllCopied (G : Geometry) (bad : List ℕ) (st : State) (erases : Bool
   pub emptied : at (here .tab .lens) (victim (st .tab)) ≡ 0
   pub erase : mayErase G (victim (st .tab)) (here .flash) ≡ erases
 
--- "an empty queue answers 0"; else 0 with all copied and erased
+-- "an empty queue answers 0"; else 0 where all is copied and the device allows the erase
 abbrev pub PassWhen : Geometry → List ℕ → State → Answer → Type 0
 PassWhen G bad st (Moved m) = (m ≡ 0) × ((st .tab .queued ≡ 0) ⊎ AllCopied G bad st true)
 PassWhen G bad st (Refused CopyNoRoom) = CopyFails G bad st CopyNoRoom
@@ -80,13 +80,12 @@ pub data Passes (G : Geometry) (bad : List ℕ) : ℕ → State → State → Li
   pass : {k m : ℕ} {st st′ : State} {ops : List Op} → collect G bad st .answer ≡ Moved m → collect G bad st .st .tab .queued ≢ 0
       → Passes G bad k (collect G bad st .st) st′ ops → Passes G bad (suc k) st st′ (collect G bad st .ops ++ ops)
 
--- "if the queue is empty, stop before counting": the next pass is finished and leaves it empty
+-- "if the queue is empty, stop before counting": the next pass is not refused, and behind it the queue is empty
 pub record LastPass (G : Geometry) (bad : List ℕ) (here : State) : Type 0 where
-  pub moved : ℕ
-  pub answer : collect G bad here .answer ≡ Moved moved
+  pub answer : PassWhen G bad here (Moved 0)
   pub queue-empty : collect G bad here .st .tab .queued ≡ 0
 
--- x passes are counted: "until m", or the last of them left the queue to a pass that emptied it
+-- x passes are counted: m of them; or fewer, and the next, which is not counted, ends with the queue empty
 pub record Counts (G : Geometry) (bad : List ℕ) (m : ℕ) (st : State) (x : ℕ) : Type 0 where
   pub here : State
   pub ops : List Op
@@ -100,7 +99,7 @@ pub record PassFails (G : Geometry) (bad : List ℕ) (m : ℕ) (st : State) (c :
   pub ops : List Op
   pub passes : Passes G bad count st here ops
   pub fewer : count < m
-  pub refused : collect G bad here .answer ≡ Refused c
+  pub refused : PassWhen G bad here (Refused c)
 
 abbrev pub ListWhen : Geometry → List ℕ → ℕ → State → Answer → Type 0
 ListWhen G bad m st (Moved x) = Counts G bad m st x
@@ -127,8 +126,8 @@ DeedWhen G bad (CollectThreshold t m s) r a = ThresholdWhen G bad t m (stateIn G
 DeedWhen G bad (Encode b s) r a = a ≡ Moved (fileSize G)
 DeedWhen G bad (Restore b s) r a = ((reasonOf G b ≡ 0) × (a ≡ Moved 0)) ⊎ ((reasonOf G b ≢ 0) × (a ≡ Refused (Reason (reasonOf G b))))
 
--- 22: "geometry or a lent size is wrong; logical page >= e; offset + length > s; checkpoint buffer too short", in 01's order: the last two behind
--- soundness
+-- 22: "geometry or a lent size is wrong; logical page >= e; offset + length > s; checkpoint buffer too short", in 01's order: logical
+-- page and overrun behind soundness, the checkpoint's buffer among the sizes
 abbrev pub WrongWhen : Geometry → List ℕ → Call → Recorder → Type 0
 WrongWhen G bad c r = (SizesRight G bad c r → ⊥) ⊎ (SizesRight G bad c r × TablesSound G c r × (Within G c → ⊥))
 
@@ -152,13 +151,13 @@ When G bad c r (Refused (Reason k)) = Passed G bad c r × DeedWhen G bad c r (Re
 -- ---- signs
 
 -- "bytes moved, or a refusal number negated": the number is 0 or above
-pub record Positive (a : Answer) : Type 0 where
+pub record IsCount (a : Answer) : Type 0 where
   pub moved : ℕ
   pub answer : a ≡ Moved moved
   pub number-is : number a ≡ pos moved
 
 -- or below 0 (`negsuc below` is -(below + 1))
-pub record Negative (a : Answer) : Type 0 where
+pub record IsRefusal (a : Answer) : Type 0 where
   pub cause : Cause
   pub below : ℕ
   pub answer : a ≡ Refused cause
