@@ -6,7 +6,7 @@ use mathlib.Core.Path.{_≡_, refl, sym, ap, _∙_, subst}
 use mathlib.Core.Logic.{_⊎_, inl, inr, _≢_}
 use mathlib.Core.List.{List, [], _∷_}
 use lib.IntN.{ℤ, pos, negsuc}
-use lib.ListN.{length, take}
+use lib.ListN.{length, take, drop}
 use Rattle.model.specs.declared.Geometry.{Geometry}
 use Rattle.model.specs.declared.Answer.{Answer}
 use Rattle.model.specs.declared.Answer.the-variants.{Moved, Refused}
@@ -17,6 +17,7 @@ use Rattle.model.specs.Numbers.{flat, refusal, number, logicalPage}
 use Rattle.model.specs.Tables.{tabWords, pages, wordOf, view}
 use Rattle.model.specs.Sound.{Mapped}
 use Rattle.model.specs.Device.{Flash, flash}
+use Rattle.model.specs.Checkpoint.{fileSize}
 use Rattle.model.specs.Entry.{Recorder, recorder, Lent, lent, Outcome, outcome, Promise, noFlash}
 use Rattle.model.specs.Entry.{formatting, opening, read, encoding, restoring}
 use Rattle.model.specs.History.{Call, Format, Open, Read, Write, Encode, Restore}
@@ -30,6 +31,7 @@ use Rattle.demands.specs.Given.{lentTo}
 use Rattle.demands.specs.When.{When, IsCount, IsRefusal}
 use Rattle.demands.specs.Left.{Leaves}
 use Rattle.demands.specs.Unit.{Collects, Shows, Ever, FromOpening}
+use Rattle.demands.proofs.Beyond.{read-beyond, encode-beyond}
 use Rattle.demands.proofs.Seen.{collected-content, read-behind-collection}
 use Rattle.demands.proofs.Unchanged.{scratch-back}
 use Rattle.demands.proofs.Signs.{signs, reasons}
@@ -131,6 +133,15 @@ module _ (G : Geometry) (bad : List ℕ) where
   -- scratch comes back on every input, whatever the answer
   pub scratch-stays : (c : Call) (r : Recorder) {x : Lent} {z : ℤ} → Promise (run G bad c r) x z → x .scratch ≡ lentTo c r .scratch
   scratch-stays c r P = ap (λ (x : Lent). x .scratch) (P .left-is) ∙ scratch-back G bad c r
+
+  -- and so do the bytes of a buffer beyond what was asked for
+  pub beyond-stays : (sector len : ℕ) (o : List ℕ) (s : List (List ℕ)) (r : Recorder) {x : Lent} {z : ℤ} → Promise (run G bad (Read sector len o s) r) x z
+      → drop len (x .buffer) ≡ drop len o
+  beyond-stays sector len o s r P = ap (λ (x : Lent). drop len (x .buffer)) (P .left-is) ∙ read-beyond G bad sector len o s r
+
+  pub beyond-file-stays : (b : List ℕ) (s : List (List ℕ)) (r : Recorder) {x : Lent} {z : ℤ} → Promise (run G bad (Encode b s) r) x z
+      → drop (fileSize G) (x .buffer) ≡ drop (fileSize G) b
+  beyond-file-stays b s r P = ap (λ (x : Lent). drop (fileSize G) (x .buffer)) (P .left-is) ∙ encode-beyond G bad b s r
 
   -- ---- "a lemma shows two outcomes that both satisfy it are the same"
 

@@ -40,7 +40,7 @@ use Rattle.model.proofs.Find.{Full, Free, found}
 use Rattle.model.proofs.Turns.{write-none, write-spent, write-stored, collect-none, threshold-above, threshold-below, finish-done, finish-refused}
 use Rattle.model.proofs.Taken.{taken-sound, victim-flag, victim-full, victim-seg}
 use Rattle.demands.proofs.Ends.{Stored, WriteEnds, write-ends, DrainEnd, DrainEnds, drain-ends}
-use Rattle.demands.proofs.Tested.{clash, sizes, sizes-exactly, soundTest, sound-exactly, pageTest, overrunTest, Inside, within-exactly, deed, run-is, fits-of}
+use Rattle.demands.proofs.Tested.{clash, not-flips, flips-not, sizes, sizes-exactly, soundTest, sound-exactly, pageTest, overrunTest, Inside, within-exactly, deed, run-is, fits-of}
 use Rattle.demands.specs.Given.{Exactly, tab, stateIn, lentTo, SizesRight, TablesSound, Within, Passed}
 use Rattle.demands.specs.When.{NoneFree, Copies, CopyFails, AllCopied, PassWhen, Passes, LastPass, Counts, PassFails, ListWhen, ThresholdWhen, DeedWhen, WrongWhen, UnsoundWhen, When, Finds, none, copy, start, pass}
 use Rattle.demands.specs.Left.{Spent}
@@ -207,14 +207,6 @@ module _ (G : Geometry) (bad : List ℕ) where
         }
 
 -- ---- the calls one by one
-
-not-flips : (b : Bool) → not b ≡ false → b ≡ true
-not-flips true e = refl
-not-flips false e = clash e
-
-flips-not : (b : Bool) → not b ≡ true → b ≡ false
-flips-not true e = clash (sym e)
-flips-not false e = refl
 
 module _ (G : Geometry) (bad : List ℕ) where
   -- a restore: the reason is that of the first test that fails

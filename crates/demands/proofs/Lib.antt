@@ -8,6 +8,7 @@ pub mod Exactly
 pub mod Signs
 -- units: formatted and opened, what a read shows, marked pages, power on
 pub mod Fresh
+pub mod Beyond
 pub mod Seen
 pub mod Marked
 pub mod Kept

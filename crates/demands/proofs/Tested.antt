@@ -33,6 +33,14 @@ use Rattle.demands.specs.Given.{Exactly, tab, stateIn, lentTo, TablesFit
 pub clash : {A : Type 0} → true ≡ false → A
 clash e = absurd (let z : _≡_ {A = ℕ} 0 1 = cc in omega arith)
 
+pub not-flips : (b : Bool) → not b ≡ false → b ≡ true
+not-flips true e = refl
+not-flips false e = clash e
+
+pub flips-not : (b : Bool) → not b ≡ true → b ≡ false
+flips-not true e = clash (sym e)
+flips-not false e = refl
+
 -- ---- scratch: `clean` is all zeros, of these sizes
 
 blank-is : (xs : List ℕ) → blank xs ≡ true → xs ≡ zeros (length xs)

@@ -114,7 +114,7 @@ Allowed lost c ops = (c ≡ Format) ⊎ (ops ≡ [])
 
 -- The recorders r that can come of r₀, where the checkpoint `file` was taken, under demand 3's premises: any fuse may be lent; no call is an
 -- opening or a restore of another file; the erases begun spare the segments of pages mapped then; the power may go between calls, or at any
--- device operation of a call, as often as it likes.
+-- device operation of a call, as often as it likes; and while it is gone calls are made as `Allowed` says.
 pub data Since (G : Geometry) (bad : List ℕ) (r₀ : Recorder) (file : List ℕ) : Phase → Recorder → Type 0 where
   checkpoint : Since G bad r₀ file running r₀
   lent-fuse : {p : Phase} {r : Recorder} → Since G bad r₀ file p r → (f : ℕ) → Since G bad r₀ file p (lit f r)
