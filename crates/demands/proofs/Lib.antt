@@ -18,6 +18,8 @@ pub mod Sparing
 pub mod Protocol
 pub mod Draining
 pub mod Steps
+-- the sort of the queue and the walk over the segments
+pub mod Order
 -- premises that can be met
 pub mod Premises
 -- the three demands, of the functions that run

@@ -4,3 +4,4 @@ pub mod When
 pub mod Left
 pub mod Unit
 pub mod Protocol
+pub mod Order
