@@ -27,7 +27,7 @@ use Rattle.model.proofs.Reading.{counted-queue}
 use Rattle.model.proofs.Official.{soundb-counted}
 use Rattle.model.proofs.Guard.{good-test}
 use Rattle.model.proofs.Find.{Full, Free, found}
-use Rattle.demands.specs.Order.{alike, Rising, StablySorted, looked, Passed, FoundAt, AllPassed}
+use Rattle.demands.specs.Order.{alike, Rising, StablySorted, looked, PassedOver, FoundAt, AllPassed}
 
 -- ---- the sort
 
@@ -241,7 +241,7 @@ module _ (G : Geometry) (used : List ℕ) (g : ℕ) where
       go false e ih = onward k f (eqb-false (mark k) 0 e) rest ih
 
 module _ (G : Geometry) (bad : List ℕ) (t : Tables) where
-  kept : (g k : ℕ) → (A : FoundAt G bad t g k) → Passed bad t (looked G t (A .step)) → ⊥
+  kept : (g k : ℕ) → (A : FoundAt G bad t g k) → PassedOver bad t (looked G t (A .step)) → ⊥
   kept g k A (inl n) = n (ap (at bad) (sym (A .segment)) ∙ A .good)
   kept g k A (inr z) = omega (arith, A .some, ap (at (t .free)) (A .segment))
 
@@ -269,23 +269,23 @@ module _ (G : Geometry) (bad : List ℕ) (t : Tables) where
 
 module _ (G : Geometry) (K : Good G) (bad : List ℕ) (t : Tables) (S : Counted G t) where
   abbrev PassedTo : ℕ → Type 0
-  PassedTo i = (j : ℕ) → j < i → Passed bad t (looked G t j)
+  PassedTo i = (j : ℕ) → j < i → PassedOver bad t (looked G t j)
 
   abbrev Walked : Found → Type 0
   Walked (At g k) = FoundAt G bad t g k
   Walked Nothing = PassedTo G.n
 
-  passed-more : (i : ℕ) → PassedTo i → Passed bad t (looked G t i) → PassedTo (suc i)
+  passed-more : (i : ℕ) → PassedTo i → PassedOver bad t (looked G t i) → PassedTo (suc i)
   passed-more i p h j b = go (same? j i)
     where
-      go : (j ≡ i) ⊎ (j ≢ i) → Passed bad t (looked G t j)
-      go (inl e) = subst (λ x. Passed bad t (looked G t x)) (sym e) h
+      go : (j ≡ i) ⊎ (j ≢ i) → PassedOver bad t (looked G t j)
+      go (inl e) = subst (λ x. PassedOver bad t (looked G t x)) (sym e) h
       go (inr m) = p j (omega arith)
 
-  unusable : (g : ℕ) → usable G bad t g ≡ false → Passed bad t g
+  unusable : (g : ℕ) → usable G bad t g ≡ false → PassedOver bad t g
   unusable g u = go (same? (at bad g) 0)
     where
-      go : (at bad g ≡ 0) ⊎ (at bad g ≢ 0) → Passed bad t g
+      go : (at bad g ≡ 0) ⊎ (at bad g ≢ 0) → PassedOver bad t g
       go (inl b) =
           let v : ltb 0 (at (t .free) g) ≡ false = rw (eq-eqb _ _ b) at u in
           inr (omega (arith, ltb-false 0 (at (t .free) g) v))
@@ -346,7 +346,7 @@ module _ (G : Geometry) (K : Good G) (bad : List ℕ) (t : Tables) (S : Counted 
   pub find-none : find G bad t ≡ Nothing → AllPassed G bad t
   find-none e g hg = go (found G K t S bad) (same? (at bad g) 0)
     where
-      go : Full G K t S bad (find G bad t) ⊎ Free G K t S bad (find G bad t) → (at bad g ≡ 0) ⊎ (at bad g ≢ 0) → Passed bad t g
+      go : Full G K t S bad (find G bad t) ⊎ Free G K t S bad (find G bad t) → (at bad g ≡ 0) ⊎ (at bad g ≢ 0) → PassedOver bad t g
       go (inl f) (inl b) = inr (f .full g hg b)
       go (inl f) (inr n) = inl n
       go (inr f) _ = absurd (let z : _≡_ {A = ℕ} 0 1 = cc (f .is, e) in omega arith)
@@ -354,7 +354,7 @@ module _ (G : Geometry) (K : Good G) (bad : List ℕ) (t : Tables) (S : Counted 
   pub none-find : AllPassed G bad t → find G bad t ≡ Nothing
   none-find p = go (found G K t S bad)
     where
-      never : (g : ℕ) → at bad g ≡ 0 → 0 < at (t .free) g → Passed bad t g → ⊥
+      never : (g : ℕ) → at bad g ≡ 0 → 0 < at (t .free) g → PassedOver bad t g → ⊥
       never g b h (inl n) = n b
       never g b h (inr z) = omega arith
 

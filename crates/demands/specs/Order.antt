@@ -35,15 +35,15 @@ abbrev pub looked : Geometry → Tables → ℕ → ℕ
 looked G t i = (t .alloc + i) % G.n
 
 -- bad, or without a free page
-abbrev pub Passed : List ℕ → Tables → ℕ → Type 0
-Passed bad t g = (at bad g ≢ 0) ⊎ (at (t .free) g ≡ 0)
+abbrev pub PassedOver : List ℕ → Tables → ℕ → Type 0
+PassedOver bad t g = (at bad g ≢ 0) ⊎ (at (t .free) g ≡ 0)
 
 -- The walk stops at page k of segment g: at some step it looks at g, each earlier one's segment is passed, g is not, and k is g's first clear page
 pub record FoundAt (G : Geometry) (bad : List ℕ) (t : Tables) (g k : ℕ) : Type 0 where
   pub step : ℕ
   pub within : step < G.n
   pub segment : g ≡ looked G t step
-  pub passed : (i : ℕ) → i < step → Passed bad t (looked G t i)
+  pub passed : (i : ℕ) → i < step → PassedOver bad t (looked G t i)
   pub good : at bad g ≡ 0
   pub some : 0 < at (t .free) g
   pub page : k < G.p
@@ -52,4 +52,4 @@ pub record FoundAt (G : Geometry) (bad : List ℕ) (t : Tables) (g k : ℕ) : Ty
 
 -- the walk stops nowhere
 abbrev pub AllPassed : Geometry → List ℕ → Tables → Type 0
-AllPassed G bad t = (g : ℕ) → g < G.n → Passed bad t g
+AllPassed G bad t = (g : ℕ) → g < G.n → PassedOver bad t g
