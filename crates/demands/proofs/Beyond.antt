@@ -2,7 +2,6 @@
 use Prim.Native.Nat.{ℕ, _+_, _*_, _≤_}
 use native.Mathlib.Omega.{arith}
 use mathlib.Core.Path.{_≡_, refl, sym, ap, _∙_}
-use mathlib.Core.Bool.{true, not}
 use mathlib.Core.List.{List, [], _∷_}
 use lib.Dec.{eqb, leb}
 use lib.ListN.{length, take, drop, length-drop, length-replicate}
@@ -10,10 +9,10 @@ use lib.Seq.{length-take-le}
 use borrow.Author.Tests.{eqb-true, eqb-false, leb-true}
 use Rattle.model.specs.declared.Geometry.{Geometry}
 use Rattle.model.specs.declared.Cause.the-variants.{Unmapped}
-use Rattle.model.specs.Lists.{every, splice, zeros}
-use Rattle.model.specs.Numbers.{good?, empty, logicalPage, offset}
-use Rattle.model.specs.Tables.{wordOf, pages}
-use Rattle.model.specs.Sound.{soundb, Mapped}
+use Rattle.model.specs.Lists.{splice, zeros}
+use Rattle.model.specs.Numbers.{good?, logicalPage, offset}
+use Rattle.model.specs.Tables.{pages}
+use Rattle.model.specs.Sound.{Mapped}
 use Rattle.model.specs.Device.{flash}
 use Rattle.model.specs.PageWrite.{whole}
 use Rattle.model.specs.Checkpoint.{fileSize}

@@ -19,8 +19,7 @@ use Rattle.model.specs.Numbers.{Good, empty, segOf}
 use Rattle.model.specs.Tables.{Tables, at, wordOf, queueOf, listOf}
 use Rattle.model.specs.Sound.{Mapped, slotOf}
 use Rattle.model.specs.Device.{Flash, Op, Program, EraseSeg, State, state, Out, out, mayProgram, mayErase, raised, blanked, performAll, finish, refuse, behind, goOn}
-use Rattle.model.specs.declared.Found.{Found}
-use Rattle.model.specs.declared.Found.the-variants.{At, Nothing}
+use Rattle.model.specs.declared.Found.the-variants.{At}
 use Rattle.model.specs.PageMap.{find, spend, due, unlink, invalidate, forget, place}
 use Rattle.model.specs.PageWrite.{content, oldPage, whole, stored, spent, writeAt, writePage}
 use Rattle.model.specs.PageGc.{sorted, victim, taken, copyAnswer, cleared, finishOf, lastOf, copyOne, drain, collectOf, collect}
@@ -43,6 +42,7 @@ use Rattle.model.proofs.Taken.{taken-sound, victim-flag, victim-full, victim-se
 use Rattle.model.proofs.Collect.{Kept, last-in, W, copied}
 use Rattle.demands.specs.When.{Copies, none, copy}
 use Rattle.demands.specs.Left.{Spent, NotFound, Programs, Stand, CopyEnds, Off, ContentKept, Finished, CopyRefused, EraseRefused, PassEnds}
+use Rattle.demands.proofs.Walk.{write-by}
 
 -- ---- 5 (write): "the page found is spent: used, free -1, valid +1, allocation segment set; map, lists, queue, flash unchanged"
 
@@ -144,11 +144,12 @@ record Quietly (st : State) (o : Out) : Type 0 where
 
 quietly : (G : Geometry) (bad : List ℕ) (l off v : ℕ) (d : List ℕ) (st : State) → Mapped (st .tab) l → segOf G (wordOf (st .tab) l) ≡ v
     → at (st .tab .flags) v ≡ 1 → Quietly st (writePage G bad l off d st)
-unfolding writePage writeAt
-quietly G bad l off v d st m e f = go (find G bad (st .tab))
+quietly G bad l off v d st m e f =
+    write-by G bad (Quietly st) l off d st (record { queue = refl; queued = refl; flags = refl; programs = tt; one = refl }) done
+    (λ _ _ _. record { queue = refl; queued = refl; flags = refl; programs = tt; one = refl })
   where
-    at-page : (g k : ℕ) (b : Bool) → Quietly st (cond b (stored G l (length d) g k (splice off d (oldPage G st l)) st) (spent G g k st))
-    at-page g k true =
+    done : (g k : ℕ) → mayProgram G g k (st .flash) ≡ true → Quietly st (stored G l (length d) g k (splice off d (oldPage G st l)) st)
+    done g k _ =
         let q : forget G l (spend G g k (st .tab)) ≡ unlink G l v (spend G g k (st .tab)) = forget-flagged G l v (spend G g k (st .tab)) m e f in
         record {
           queue = ap (λ (t : Tables). t .queue) q;
@@ -157,11 +158,6 @@ quietly G bad l off v d st m e f = go (find G bad (st .tab))
           programs = tt;
           one = refl;
         }
-    at-page g k false = record { queue = refl; queued = refl; flags = refl; programs = tt; one = refl }
-
-    go : (r : Found) → Quietly st (writeAt G r l off d st)
-    go Nothing = record { queue = refl; queued = refl; flags = refl; programs = tt; one = refl }
-    go (At g k) = at-page g k (mayProgram G g k (st .flash))
 
 -- the last of a list, which stands there once, taken off
 remove-last : (x : ℕ) (xs : List ℕ) (j : ℕ) → length xs ≡ suc j → at xs j ≡ x → occ x xs ≡ 1 → remove x xs ≡ take j xs

@@ -9,7 +9,7 @@ use lib.Dec.{eqb, ltb}
 use lib.ListN.{length, take}
 use lib.Seq.{length-take-le}
 use borrow.Author.Tests.{eqb-true, eqb-false, eq-eqb, ne-eqb, lt-ltb, le-ltb}
-use Rattle.model.specs.Lists.{splice, total}
+use Rattle.model.specs.Lists.{total}
 use Rattle.model.specs.declared.Geometry.{Geometry}
 use Rattle.model.specs.declared.Answer.{Answer}
 use Rattle.model.specs.declared.Cause.{Cause}
@@ -19,10 +19,9 @@ use Rattle.model.specs.Numbers.{Good, empty, logicalPage, offset}
 use Rattle.model.specs.Tables.{at, wordOf}
 use Rattle.model.specs.Sound.{Mapped}
 use Rattle.model.specs.Device.{Flash, Op, State, state, Out, out, goOn, mayProgram, mayErase, finish}
-use Rattle.model.specs.declared.Found.{Found}
-use Rattle.model.specs.declared.Found.the-variants.{At, Nothing}
+use Rattle.model.specs.declared.Found.the-variants.{Nothing}
 use Rattle.model.specs.PageMap.{find}
-use Rattle.model.specs.PageWrite.{whole, oldPage, stored, spent, writeAt, writePage}
+use Rattle.model.specs.PageWrite.{whole, writePage}
 use Rattle.model.specs.PageGc.{victim, taken, copyAnswer, lastOf, finishOf, copyOne, drain, collectOf, collect, collectMore, collectList, collectThreshold}
 use Rattle.model.specs.Checkpoint.{fileSize, reasonOf}
 use Rattle.model.specs.Entry.{Recorder, Lent, lent, Outcome, refused}
@@ -44,6 +43,7 @@ use Rattle.demands.proofs.Tested.{clash, not-flips, flips-not, sizes, s
 use Rattle.demands.specs.Given.{Exactly, tab, stateIn, lentTo, SizesRight, TablesSound, Within, Passed}
 use Rattle.demands.specs.When.{NoneFree, Copies, CopyFails, AllCopied, PassWhen, Passes, LastPass, Counts, PassFails, ListWhen, ThresholdWhen, DeedWhen, WrongWhen, UnsoundWhen, When, Finds, none, copy, start, pass}
 use Rattle.demands.specs.Left.{Spent}
+use Rattle.demands.proofs.Walk.{write-by}
 
 not-true : (b : Bool) → (b ≡ true → ⊥) → b ≡ false
 not-true true n = absurd (n refl)
@@ -76,16 +76,7 @@ module _ (G : Geometry) (bad : List ℕ) where
   pass-plain (Refused (Reason r)) h = tt
 
   write-plain : (l off : ℕ) (d : List ℕ) (st : State) → Plain (writePage G bad l off d st .answer)
-  unfolding writePage writeAt
-  write-plain l off d st = go (find G bad (st .tab))
-    where
-      at-page : (g k : ℕ) (b : Bool) → Plain ((cond b (stored G l (length d) g k (splice off d (oldPage G st l)) st) (spent G g k st)) .answer)
-      at-page g k true = tt
-      at-page g k false = tt
-
-      go : (r : Found) → Plain (writeAt G r l off d st .answer)
-      go Nothing = tt
-      go (At g k) = at-page g k (mayProgram G g k (st .flash))
+  write-plain l off d st = write-by G bad (λ o. Plain (o .answer)) l off d st tt (λ _ _ _. tt) (λ _ _ _. tt)
 
   deed-plain : (c : Call) (r : Recorder) → Plain (deed G bad c r .answer)
   unfolding deed collectList
@@ -386,22 +377,9 @@ CopyMay (Refused Device) = ⊥
 CopyMay (Refused (Reason r)) = ⊥
 
 copy-may : (G : Geometry) (bad : List ℕ) (v : ℕ) (st : State) → CopyMay (copyOne G bad v st .answer)
-unfolding writePage writeAt
-copy-may G bad v st = go (find G bad (st .tab))
-  where
-    l : ℕ
-    l = lastOf G v (st .tab)
-
-    w : List ℕ
-    w = whole G st (lastOf G v (st .tab))
-
-    at-page : (g k : ℕ) (b : Bool) → CopyMay (copyAnswer ((cond b (stored G l (length w) g k (splice 0 w (oldPage G st l)) st) (spent G g k st)) .answer))
-    at-page g k true = tt
-    at-page g k false = tt
-
-    go : (r : Found) → CopyMay (copyAnswer (writeAt G r l 0 w st .answer))
-    go Nothing = tt
-    go (At g k) = at-page g k (mayProgram G g k (st .flash))
+copy-may G bad v st =
+    let l : ℕ = lastOf G v (st .tab) in
+    write-by G bad (λ o. CopyMay (copyAnswer (o .answer))) l 0 (whole G st l) st tt (λ _ _ _. tt) (λ _ _ _. tt)
 
 module _ (G : Geometry) (K : Good G) (bad : List ℕ) (st : State) (S : Counted G (st .tab)) (F : Fit G (st .flash)) where
   module _ (some : st .tab .queued ≢ 0) where

@@ -1,5 +1,6 @@
 -- the rows of 01's table: what a refusal leaves, exactly when each answer is given, its sign
 pub mod Passed
+pub mod Walk
 pub mod Unchanged
 pub mod Ends
 pub mod Leaves

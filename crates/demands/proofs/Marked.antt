@@ -7,23 +7,19 @@ use mathlib.Core.Path.{_≡_, refl, sym, ap, _∙_, subst}
 use mathlib.Core.Bool.{Bool, true, false, cond}
 use mathlib.Core.Logic.{_⊎_, inl, inr, _≢_}
 use mathlib.Core.List.{List, [], _∷_, _++_}
-use lib.Dec.{eqb, ltb}
+use lib.Dec.{eqb}
 use lib.ListN.{length, getD, set, take, replicate, length-replicate}
 use lib.Seq.{getD-set-other}
 use borrow.Author.Tests.{eqb-true}
-use Rattle.model.specs.Lists.{onSlot, splice, total, zeros}
+use Rattle.model.specs.Lists.{onSlot, zeros}
 use Rattle.model.specs.declared.Geometry.{Geometry}
 use Rattle.model.specs.declared.Answer.{Answer}
 use Rattle.model.specs.declared.Answer.the-variants.{Moved, Refused}
-use Rattle.model.specs.declared.Cause.the-variants.{Erase}
 use Rattle.model.specs.Numbers.{empty, endless, flat, segOf, pageOf}
 use Rattle.model.specs.Tables.{at, tabWords, pages}
-use Rattle.model.specs.Device.{Flash, flash, Op, Program, EraseSeg, State, state, Out, out, finish, refuse, behind, goOn, blanked, burn, programmed, performAll, formatFrom, mayProgram, mayErase, pageAt}
-use Rattle.model.specs.declared.Found.{Found}
-use Rattle.model.specs.declared.Found.the-variants.{At, Nothing}
-use Rattle.model.specs.PageMap.{find}
-use Rattle.model.specs.PageWrite.{content, oldPage, whole, stored, spent, writeAt, writePage}
-use Rattle.model.specs.PageGc.{victim, taken, cleared, finishOf, lastOf, copyOne, drain, collectOf, collect, collectMore, collectList, collectThreshold}
+use Rattle.model.specs.Device.{Flash, flash, Op, Program, EraseSeg, State, state, Out, out, finish, behind, goOn, blanked, burn, programmed, performAll, formatFrom, mayProgram, pageAt}
+use Rattle.model.specs.PageWrite.{content, whole, writePage}
+use Rattle.model.specs.PageGc.{victim, finishOf, lastOf, copyOne, collect, collectMore, collectList, collectThreshold}
 use Rattle.model.specs.Checkpoint.{restoredFrom, sealed}
 use Rattle.model.specs.Entry.{Recorder, Lent, lent, stateOf, collecting, formatting, write, collection, listCollection, thresholdCollection}
 use Rattle.model.specs.History.{Call, Format, Open, Read, Write, Collect, CollectList, CollectThreshold, Encode, Restore, lit, run, after, opsOf, contentOf, mapIn, Elsewhere, Spares, Cut, GivesBack}
@@ -41,6 +37,7 @@ use Rattle.model.proofs.Entry.{stepped, by-kind, Begins, Begun, opened-flash, r
 use Rattle.model.proofs.Cut.{Encoded, encoded, restores}
 use Rattle.demands.specs.Given.{tab}
 use Rattle.demands.specs.Unit.{Ever, start, tables-lost, lent-fuse, called, cut}
+use Rattle.demands.proofs.Walk.{write-by, finish-by, collect-by, more-by, threshold-by}
 
 -- every listed programming is of a page whose mark is clear as it is done
 abbrev pub Clear : Geometry → List Op → Flash → Type 0
@@ -69,22 +66,19 @@ module _ (G : Geometry) (bad : List ℕ) where
   none : (st : State) (a : Answer) → Honest G (st .flash) (out st a [])
   none st a = record { performs = refl; clear = tt }
 
-  then : (f : Flash) (a : Answer) (o : Out) (rest : State → Out) → Honest G f o → Honest G (o .st .flash) (rest (o .st)) → Honest G f (goOn a o rest)
-  then f (Moved m) o rest A B = honest-behind G f o (rest (o .st)) A B
-  then f (Refused c) o rest A B = A
+  then : (a : Answer) (f : Flash) (o : Out) (rest : State → Out) → Honest G f o → Honest G (o .st .flash) (rest (o .st)) → Honest G f (goOn a o rest)
+  then (Moved m) f o rest A B = honest-behind G f o (rest (o .st)) A B
+  then (Refused c) f o rest A B = A
 
   write-honest : (l off : ℕ) (d : List ℕ) (st : State) → Honest G (st .flash) (writePage G bad l off d st)
-  unfolding writePage writeAt mayProgram
-  write-honest l off d st = go (find G bad (st .tab))
-    where
-      at-page : (g k : ℕ) (b : Bool) → mayProgram G g k (st .flash) ≡ b
-          → Honest G (st .flash) (cond b (stored G l (length d) g k (splice off d (oldPage G st l)) st) (spent G g k st))
-      at-page g k true e = record { performs = refl; clear = (eqb-true _ _ (both _ _ e .0), tt) }
-      at-page g k false e = record { performs = refl; clear = tt }
+  unfolding mayProgram
+  write-honest l off d st =
+      write-by G bad (Honest G (st .flash)) l off d st (none st _)
+      (λ g k e. record { performs = refl; clear = (eqb-true _ _ (both _ _ e .0), tt) })
+      (λ g k e. record { performs = refl; clear = tt })
 
-      go : (r : Found) → Honest G (st .flash) (writeAt G r l off d st)
-      go Nothing = record { performs = refl; clear = tt }
-      go (At g k) = at-page g k (mayProgram G g k (st .flash)) refl
+  abbrev HonestOut : State → Out → Type 0
+  HonestOut st o = Honest G (st .flash) o
 
   copy-honest : (v : ℕ) (st : State) → Honest G (st .flash) (copyOne G bad v st)
   copy-honest v st =
@@ -92,55 +86,21 @@ module _ (G : Geometry) (bad : List ℕ) where
       let W : Honest G (st .flash) (writePage G bad l 0 (whole G st l) st) = write-honest l 0 (whole G st l) st in
       record { performs = W .performs; clear = W .clear }
 
-  drain-honest : (b v : ℕ) (st : State) → Honest G (st .flash) (drain G bad b v st)
-  unfolding drain
-  drain-honest zero v st = none st (Moved 0)
-  drain-honest (suc b) v st = go (eqb (at (st .tab .lens) v) 0) (λ st′. drain-honest b v st′)
-    where
-      go : (c : Bool) → ((st′ : State) → Honest G (st′ .flash) (drain G bad b v st′))
-          → Honest G (st .flash) (cond c (finish 0 st) (goOn (copyOne G bad v st .answer) (copyOne G bad v st) (λ st′. drain G bad b v st′)))
-      go true ih = none st (Moved 0)
-      go false ih = then (st .flash) (copyOne G bad v st .answer) (copyOne G bad v st) _ (copy-honest v st) (ih (copyOne G bad v st .st))
-
   finish-honest : (v : ℕ) (st : State) → Honest G (st .flash) (finishOf G v st)
-  unfolding finishOf
-  finish-honest v st = go (mayErase G v (st .flash))
-    where
-      go : (b : Bool) → Honest G (st .flash) (cond b (cleared G v st) (refuse Erase st))
-      go true = record { performs = refl; clear = tt }
-      go false = none st (Refused Erase)
+  finish-honest v st = finish-by G bad (Honest G (st .flash)) v st (record { performs = refl; clear = tt }) (none st _)
+
+  went-honest : (st : State) (o : Out) (rest : State → Out) → HonestOut st o → HonestOut (o .st) (rest (o .st)) → HonestOut st (goOn (o .answer) o rest)
+  went-honest st o rest = then (o .answer) (st .flash) o rest
 
   collect-honest : (st : State) → Honest G (st .flash) (collect G bad st)
-  unfolding collect collectOf
-  collect-honest st = go (eqb (st .tab .queued) 0)
-    where
-      go : (b : Bool) → Honest G (st .flash) (cond b (finish 0 st) (collectOf G bad (victim (st .tab)) st))
-      go true = none st (Moved 0)
-      go false =
-          let d : Out = drain G bad (G .p) (victim (st .tab)) (state (taken (st .tab)) (st .flash)) in
-          then (st .flash) (d .answer) d (λ st′. finishOf G (victim (st .tab)) st′)
-          (drain-honest (G .p) (victim (st .tab)) (state (taken (st .tab)) (st .flash)))
-          (finish-honest (victim (st .tab)) (d .st))
+  collect-honest st =
+      collect-by G bad HonestOut (λ c st. none st (Moved c)) copy-honest (λ _ _ h. h) went-honest st (λ _. finish-honest (victim (st .tab)))
 
   more-honest : (m c : ℕ) (st : State) → Honest G (st .flash) (collectMore G bad m c st)
-  unfolding collectMore
-  more-honest zero c st = none st (Moved c)
-  more-honest (suc m) c st =
-      then (st .flash) (collect G bad st .answer) (collect G bad st) _ (collect-honest st)
-      (go (eqb (collect G bad st .st .tab .queued) 0) (more-honest m (suc c) (collect G bad st .st)))
-    where
-      go : (b : Bool) → Honest G (collect G bad st .st .flash) (collectMore G bad m (suc c) (collect G bad st .st))
-          → Honest G (collect G bad st .st .flash) (cond b (finish c (collect G bad st .st)) (collectMore G bad m (suc c) (collect G bad st .st)))
-      go true ih = none (collect G bad st .st) (Moved c)
-      go false ih = ih
+  more-honest = more-by G bad HonestOut (λ c st. none st (Moved c)) copy-honest (λ _ _ h. h) went-honest finish-honest
 
   threshold-honest : (t m : ℕ) (st : State) → Honest G (st .flash) (collectThreshold G bad t m st)
-  unfolding collectThreshold collectList
-  threshold-honest t m st = go (ltb t (total (st .tab .free)))
-    where
-      go : (b : Bool) → Honest G (st .flash) (cond b (finish 0 st) (collectMore G bad m 0 st))
-      go true = none st (Moved 0)
-      go false = more-honest m 0 st
+  threshold-honest = threshold-by G bad HonestOut (λ c st. none st (Moved c)) copy-honest (λ _ _ h. h) went-honest finish-honest
 
   format-clear : (j g : ℕ) (st : State) → Clear G (formatFrom G j g st .ops) (st .flash)
   unfolding formatFrom

@@ -2,22 +2,19 @@
 use Prim.Native.Nat.{ℕ, zero, suc, _+_, _≤_, _<_}
 use native.Mathlib.Omega.{arith}
 use mathlib.Core.Path.{_≡_, refl, sym, subst}
-use mathlib.Core.Bool.{Bool, true, false, cond}
+use mathlib.Core.Bool.{Bool, true, false}
 use mathlib.Core.Logic.{_⊎_, inl, inr, _≢_}
 use mathlib.Core.List.{List, [], _∷_}
 use lib.Dec.{eqb}
 use lib.ListN.{length, take}
 use borrow.Author.Tests.{eqb-false}
-use Rattle.model.specs.Lists.{splice, firstNot}
+use Rattle.model.specs.Lists.{firstNot}
 use Rattle.model.specs.declared.Geometry.{Geometry}
 use Rattle.model.specs.declared.Answer.{Answer}
 use Rattle.model.specs.declared.Answer.the-variants.{Moved, Refused}
 use Rattle.model.specs.declared.Cause.the-variants.{Wrong, Unsound, Unmapped, NoRoom, Device, CopyNoRoom, CopyDevice, Erase, Reason}
-use Rattle.model.specs.Device.{State, Out, mayProgram}
-use Rattle.model.specs.declared.Found.{Found}
-use Rattle.model.specs.declared.Found.the-variants.{At, Nothing}
-use Rattle.model.specs.PageMap.{find}
-use Rattle.model.specs.PageWrite.{oldPage, stored, spent, writeAt, writePage}
+use Rattle.model.specs.Device.{State, Out}
+use Rattle.model.specs.PageWrite.{writePage}
 use Rattle.model.specs.PageGc.{collectList}
 use Rattle.model.specs.Checkpoint.{fileTests, reasonOf}
 use Rattle.model.specs.Entry.{Recorder, Lent, lent, Outcome, unless, stateOf, collecting}
@@ -26,6 +23,7 @@ use Rattle.model.specs.History.{Call, Format, Open, Read, Write, Collect, Colle
 use Rattle.model.proofs.Guard.{unless-by, guarded-by}
 use Rattle.demands.proofs.Unchanged.{Pass, collect-pass, more-pass, threshold-pass, formats-all}
 use Rattle.demands.specs.When.{IsCount, IsRefusal}
+use Rattle.demands.proofs.Walk.{write-by}
 
 -- "and the reason is the answer": 1 to 9
 abbrev pub Fair : Answer → Type 0
@@ -77,16 +75,7 @@ module _ (G : Geometry) (bad : List ℕ) where
   FairOut o = Fair (o .answer)
 
   write-fair : (l off : ℕ) (d : List ℕ) (st : State) → Fair (writePage G bad l off d st .answer)
-  unfolding writePage writeAt
-  write-fair l off d st = go (find G bad (st .tab))
-    where
-      at-page : (g k : ℕ) (b : Bool) → Fair ((cond b (stored G l (length d) g k (splice off d (oldPage G st l)) st) (spent G g k st)) .answer)
-      at-page g k true = tt
-      at-page g k false = tt
-
-      go : (r : Found) → Fair (writeAt G r l off d st .answer)
-      go Nothing = tt
-      go (At g k) = at-page g k (mayProgram G g k (st .flash))
+  write-fair l off d st = write-by G bad (λ o. Fair (o .answer)) l off d st tt (λ _ _ _. tt) (λ _ _ _. tt)
 
   restored-fair : (b : List ℕ) (c : Bool) → eqb (reasonOf G b) 0 ≡ c → (x : Lent) (o : Outcome) → FairOut o → FairOut (unless c (Reason (reasonOf G b)) x o)
   unfolding unless

@@ -14,11 +14,8 @@ use Rattle.model.specs.declared.Answer.{Answer}
 use Rattle.model.specs.declared.Answer.the-variants.{Moved, Refused}
 use Rattle.model.specs.declared.Cause.the-variants.{Erase}
 use Rattle.model.specs.Tables.{Tables, at}
-use Rattle.model.specs.Device.{flash, Op, Program, EraseSeg, State, state, Out, mayProgram, mayErase, finish, refuse, goOn}
-use Rattle.model.specs.declared.Found.{Found}
-use Rattle.model.specs.declared.Found.the-variants.{At, Nothing}
-use Rattle.model.specs.PageMap.{find}
-use Rattle.model.specs.PageWrite.{oldPage, whole, stored, spent, writeAt, writePage}
+use Rattle.model.specs.Device.{flash, Op, Program, EraseSeg, State, state, Out, mayErase, finish, refuse, goOn}
+use Rattle.model.specs.PageWrite.{oldPage, whole, writePage}
 use Rattle.model.specs.PageGc.{victim, taken, cleared, finishOf, lastOf, copyOne, drain, collectOf, collect}
 use Rattle.model.specs.Entry.{Recorder, lent, stateOf, write, collection}
 use Rattle.model.specs.History.{Call, Format, Open, Read, Write, Collect, CollectList, CollectThreshold, Encode, Restore, run, mapIn}
@@ -31,6 +28,7 @@ use Rattle.model.proofs.Entry.{Fits, read-unit, encoding-unit}
 use Rattle.demands.proofs.Passed.{all-passed}
 use Rattle.demands.specs.Given.{tab}
 use Rattle.demands.specs.Protocol.{Gentle, Drained, Erases}
+use Rattle.demands.proofs.Walk.{write-by, finish-by, collect-by}
 
 -- what spares M: one list behind another, and the first operations of a list
 module _ (G : Geometry) (M : List ℕ) where
@@ -53,16 +51,7 @@ module _ (G : Geometry) (bad : List ℕ) where
   -- a write does nothing, or programs a page: what holds of both holds of its operations
   module _ (P : List Op → Type 0) (idle : P []) (one : (g k : ℕ) (page : List ℕ) → P (Program g k page ∷ [])) where
     page-by : (l o : ℕ) (d : List ℕ) (st : State) → P (writePage G bad l o d st .ops)
-    unfolding writePage writeAt
-    page-by l o d st = go (find G bad (st .tab))
-      where
-        at-page : (g k : ℕ) (b : Bool) → P ((cond b (stored G l (length d) g k (splice o d (oldPage G st l)) st) (spent G g k st)) .ops)
-        at-page g k true = one g k (splice o d (oldPage G st l))
-        at-page g k false = idle
-
-        go : (r : Found) → P (writeAt G r l o d st .ops)
-        go Nothing = idle
-        go (At g k) = at-page g k (mayProgram G g k (st .flash))
+    page-by l o d st = write-by G bad (λ y. P (y .ops)) l o d st idle (λ g k _. one g k (splice o d (oldPage G st l))) (λ _ _ _. idle)
 
     gentle-by : (c : Call) → Gentle c → (r : Recorder) → P (run G bad c r .ops)
     unfolding write
@@ -92,36 +81,10 @@ module _ (G : Geometry) (bad : List ℕ) where
     copy-spares : (v : ℕ) (st : State) → Spares G M (copyOne G bad v st .ops)
     copy-spares v st = page-by (Spares G M) tt (λ g k page. tt) (lastOf G v (st .tab)) 0 (whole G st (lastOf G v (st .tab))) st
 
-    drain-spares : (b v : ℕ) (st : State) → Spares G M (drain G bad b v st .ops)
-    unfolding drain
-    drain-spares zero v st = tt
-    drain-spares (suc b) v st = go (eqb (at (st .tab .lens) v) 0) (λ st′. drain-spares b v st′)
-      where
-        go : (c : Bool) → ((st′ : State) → Spares G M (drain G bad b v st′ .ops))
-            → Spares G M ((cond c (finish 0 st) (goOn (copyOne G bad v st .answer) (copyOne G bad v st) (λ st′. drain G bad b v st′))) .ops)
-        go true ih = tt
-        go false ih = then-spares (copyOne G bad v st .answer) (copyOne G bad v st) _ (copy-spares v st) (ih (copyOne G bad v st .st))
-
-    finish-spares : (v : ℕ) (st : State) → Elsewhere G M v → Spares G M (finishOf G v st .ops)
-    unfolding finishOf
-    finish-spares v st e = go (mayErase G v (st .flash))
-      where
-        go : (b : Bool) → Spares G M ((cond b (cleared G v st) (refuse Erase st)) .ops)
-        go true = (e, tt)
-        go false = tt
-
     collect-spares : (st : State) → (0 < st .tab .queued → Elsewhere G M (victim (st .tab))) → Spares G M (collect G bad st .ops)
-    unfolding collect collectOf
-    collect-spares st e = go (eqb (st .tab .queued) 0) refl
-      where
-        go : (b : Bool) → eqb (st .tab .queued) 0 ≡ b → Spares G M ((cond b (finish 0 st) (collectOf G bad (victim (st .tab)) st)) .ops)
-        go true q = tt
-        go false q =
-            let n : st .tab .queued ≡ 0 → ⊥ = eqb-false _ _ q in
-            let d : Out = drain G bad G.p (victim (st .tab)) (state (taken (st .tab)) (st .flash)) in
-            then-spares (d .answer) d (λ st′. finishOf G (victim (st .tab)) st′)
-            (drain-spares G.p (victim (st .tab)) (state (taken (st .tab)) (st .flash)))
-            (finish-spares (victim (st .tab)) (d .st) (e (omega arith)))
+    collect-spares st e =
+        collect-by G bad (λ _ o. Spares G M (o .ops)) (λ _ _. tt) copy-spares (λ _ _ h. h) (λ _ o rest. then-spares (o .answer) o rest) st
+        (λ some st′. finish-by G bad (λ o. Spares G M (o .ops)) (victim (st .tab)) st′ (e some, tt) tt)
 
     -- so it spares what is not in its victim
     pub collection-spares : (r : Recorder) (s : List (List ℕ)) → (0 < tab G r .queued → Elsewhere G M (victim (tab G r)))

@@ -5,22 +5,18 @@ use Prim.Native.Nat.{ℕ, zero, suc}
 use mathlib.Core.Path.{_≡_, refl, sym, ap, _∙_, subst}
 use mathlib.Core.Bool.{Bool, true, false, cond}
 use mathlib.Core.List.{List, [], _∷_}
-use lib.Dec.{eqb, ltb, leb}
+use lib.Dec.{eqb, leb}
 use lib.ListN.{length, take}
-use Rattle.model.specs.Lists.{splice, total}
 use Rattle.model.specs.declared.Geometry.{Geometry}
 use Rattle.model.specs.declared.Answer.{Answer}
 use Rattle.model.specs.declared.Cause.{Cause}
 use Rattle.model.specs.declared.Answer.the-variants.{Moved, Refused}
 use Rattle.model.specs.declared.Cause.the-variants.{Wrong, Unsound, Unmapped, NoRoom, Device, CopyNoRoom, CopyDevice, Erase, Reason}
 use Rattle.model.specs.Numbers.{good?, logicalPage, offset}
-use Rattle.model.specs.Tables.{at, view, tabWords}
-use Rattle.model.specs.Device.{EraseSeg, State, state, Out, finish, refuse, behind, goOn, blanked, formatFrom, mayProgram, mayErase}
-use Rattle.model.specs.declared.Found.{Found}
-use Rattle.model.specs.declared.Found.the-variants.{At, Nothing}
-use Rattle.model.specs.PageMap.{find}
-use Rattle.model.specs.PageWrite.{oldPage, whole, stored, spent, writeAt, writePage}
-use Rattle.model.specs.PageGc.{victim, taken, copyAnswer, cleared, finishOf, lastOf, copyOne, drain, collectOf, collect, collectMore, collectList, collectThreshold}
+use Rattle.model.specs.Tables.{view, tabWords}
+use Rattle.model.specs.Device.{EraseSeg, State, state, Out, finish, behind, goOn, blanked, formatFrom}
+use Rattle.model.specs.PageWrite.{whole, writePage}
+use Rattle.model.specs.PageGc.{victim, copyAnswer, finishOf, lastOf, copyOne, collect, collectMore, collectList, collectThreshold}
 use Rattle.model.specs.Checkpoint.{fileSize, reasonOf}
 use Rattle.model.specs.Entry.{Recorder, recorder, Lent, lent, Outcome, back, stateOf, tablesFit, flashFits, clean, pageScratch, seenScratch, allFits, collecting}
 use Rattle.model.specs.Entry.{formatting, opening, read, write, collection, listCollection, thresholdCollection, encoding, restoring}
@@ -29,6 +25,7 @@ use Rattle.model.proofs.View.{packed-view}
 use Rattle.model.proofs.Guard.{each, tables-test, unless-by, guarded-by}
 use Rattle.demands.specs.Given.{lentTo}
 use Rattle.demands.specs.Left.{Quiet}
+use Rattle.demands.proofs.Walk.{write-by, finish-by, collect-by, more-by, threshold-by}
 
 -- what a collection's passes may answer
 abbrev pub Pass : Answer → Type 0
@@ -54,75 +51,33 @@ loud CopyDevice q p = q
 loud Erase q p = q
 loud (Reason r) q p = p
 
-pass-then : (a : Answer) (o : Out) (f : State → Out) → o .answer ≡ a → Pass (o .answer) → Pass (f (o .st) .answer) → Pass (goOn a o f .answer)
-pass-then (Moved m) o f e h r = r
-pass-then (Refused c) o f e h r = h
+pass-then : (a : Answer) (o : Out) (f : State → Out) → Pass (o .answer) → Pass (f (o .st) .answer) → Pass (goOn a o f .answer)
+pass-then (Moved m) o f h r = r
+pass-then (Refused c) o f h r = h
 
 module _ (G : Geometry) (bad : List ℕ) where
-  pub copy-pass : (l off : ℕ) (d : List ℕ) (st : State) → Pass (copyAnswer (writePage G bad l off d st .answer))
-  unfolding writePage writeAt
-  copy-pass l off d st = go (find G bad (st .tab))
-    where
-      at-page : (g k : ℕ) (b : Bool)
-          → Pass (copyAnswer ((cond b (stored G l (length d) g k (splice off d (oldPage G st l)) st) (spent G g k st)) .answer))
-      at-page g k true = tt
-      at-page g k false = tt
+  abbrev PassOut : State → Out → Type 0
+  PassOut st o = Pass (o .answer)
 
-      go : (r : Found) → Pass (copyAnswer (writeAt G r l off d st .answer))
-      go Nothing = tt
-      go (At g k) = at-page g k (mayProgram G g k (st .flash))
+  copy-pass : (v : ℕ) (st : State) → Pass (copyOne G bad v st .answer)
+  copy-pass v st =
+      let l : ℕ = lastOf G v (st .tab) in
+      write-by G bad (λ o. Pass (copyAnswer (o .answer))) l 0 (whole G st l) st tt (λ _ _ _. tt) (λ _ _ _. tt)
 
-  pub drain-pass : (b v : ℕ) (st : State) → Pass (drain G bad b v st .answer)
-  unfolding drain
-  drain-pass zero v st = tt
-  drain-pass (suc b) v st = go (eqb (at (st .tab .lens) v) 0) (λ st′. drain-pass b v st′)
-    where
-      go : (c : Bool) → ((st′ : State) → Pass (drain G bad b v st′ .answer))
-          → Pass ((cond c (finish 0 st) (goOn (copyOne G bad v st .answer) (copyOne G bad v st) (λ st′. drain G bad b v st′))) .answer)
-      go true ih = tt
-      go false ih =
-          let l : ℕ = lastOf G v (st .tab) in
-          pass-then (copyOne G bad v st .answer) (copyOne G bad v st) _ refl (copy-pass l 0 (whole G st l) st) (ih (copyOne G bad v st .st))
+  finish-pass : (v : ℕ) (st : State) → Pass (finishOf G v st .answer)
+  finish-pass v st = finish-by G bad (λ o. Pass (o .answer)) v st tt tt
 
-  pub finish-pass : (v : ℕ) (st : State) → Pass (finishOf G v st .answer)
-  unfolding finishOf
-  finish-pass v st = go (mayErase G v (st .flash))
-    where
-      go : (b : Bool) → Pass ((cond b (cleared G v st) (refuse Erase st)) .answer)
-      go true = tt
-      go false = tt
+  went-pass : (st : State) (o : Out) (rest : State → Out) → Pass (o .answer) → Pass (rest (o .st) .answer) → Pass (goOn (o .answer) o rest .answer)
+  went-pass st o rest = pass-then (o .answer) o rest
 
   pub collect-pass : (st : State) → Pass (collect G bad st .answer)
-  unfolding collect collectOf
-  collect-pass st = go (eqb (st .tab .queued) 0)
-    where
-      go : (b : Bool) → Pass ((cond b (finish 0 st) (collectOf G bad (victim (st .tab)) st)) .answer)
-      go true = tt
-      go false =
-          let first : Out = drain G bad (G .p) (victim (st .tab)) (state (taken (st .tab)) (st .flash)) in
-          pass-then (first .answer) first (λ st′. finishOf G (victim (st .tab)) st′) refl
-          (drain-pass (G .p) (victim (st .tab)) (state (taken (st .tab)) (st .flash)))
-          (finish-pass (victim (st .tab)) (first .st))
+  collect-pass st = collect-by G bad PassOut (λ _ _. tt) copy-pass (λ _ _ h. h) went-pass st (λ _. finish-pass (victim (st .tab)))
 
   pub more-pass : (m c : ℕ) (st : State) → Pass (collectMore G bad m c st .answer)
-  unfolding collectMore
-  more-pass zero c st = tt
-  more-pass (suc m) c st =
-      pass-then (collect G bad st .answer) (collect G bad st) _ refl (collect-pass st)
-      (go (eqb (collect G bad st .st .tab .queued) 0) (more-pass m (suc c) (collect G bad st .st)))
-    where
-      go : (b : Bool) → Pass (collectMore G bad m (suc c) (collect G bad st .st) .answer)
-          → Pass ((cond b (finish c (collect G bad st .st)) (collectMore G bad m (suc c) (collect G bad st .st))) .answer)
-      go true ih = tt
-      go false ih = ih
+  more-pass = more-by G bad PassOut (λ _ _. tt) copy-pass (λ _ _ h. h) went-pass finish-pass
 
   pub threshold-pass : (t m : ℕ) (st : State) → Pass (collectThreshold G bad t m st .answer)
-  unfolding collectThreshold collectList
-  threshold-pass t m st = go (ltb t (total (st .tab .free)))
-    where
-      go : (b : Bool) → Pass ((cond b (finish 0 st) (collectMore G bad m 0 st)) .answer)
-      go true = tt
-      go false = more-pass m 0 st
+  threshold-pass = threshold-by G bad PassOut (λ _ _. tt) copy-pass (λ _ _ h. h) went-pass finish-pass
 
   pub formats-all : (j g : ℕ) (st : State) → formatFrom G j g st .answer ≡ Moved 0
   unfolding formatFrom
@@ -150,18 +105,13 @@ module _ (G : Geometry) (bad : List ℕ) where
 
     inner-stays : (x : Lent) → length (x .unit .words) ≡ tabWords G → (l off : ℕ) (c : List ℕ)
         → Stays x (back G x (writePage G bad l off c (stateOf G x)))
-    unfolding writePage writeAt view
-    inner-stays x w l off c = go (find G bad (stateOf G x .tab))
-      where
-        at-page : (g i : ℕ) (b : Bool)
-            → Stays x (back G x (cond b (stored G l (length c) g i (splice off c (oldPage G (stateOf G x) l)) (stateOf G x)) (spent G g i (stateOf G x))))
-        at-page g i true e = none (Moved (length c)) tt e
-        at-page g i false e = absurd (subst Loudly e (λ z. z) q)
-
-        go : (f : Found) → Stays x (back G x (writeAt G f l off c (stateOf G x)))
-        go Nothing e =
-            (ap (λ z. lent (recorder z (x .unit .used) (x .unit .flash)) (x .buffer) (x .scratch)) (packed-view G (x .unit .words) (x .unit .used) w), refl)
-        go (At g i) e = at-page g i (mayProgram G g i (x .unit .flash)) e
+    unfolding view
+    inner-stays x w l off c =
+        write-by G bad (λ o. Stays x (back G x o)) l off c (stateOf G x)
+        (λ _.
+        (ap (λ z. lent (recorder z (x .unit .used) (x .unit .flash)) (x .buffer) (x .scratch)) (packed-view G (x .unit .words) (x .unit .used) w), refl))
+        (λ _ _ _ e. none (Moved (length c)) tt e)
+        (λ _ _ _ e. absurd (subst Loudly e (λ z. z) q))
 
     write-stays : (sector len : ℕ) (d : List ℕ) (x : Lent) → Stays x (write G bad sector len d x)
     unfolding write
