@@ -1,4 +1,4 @@
--- One step of the walk over segments and of the scan of a segment's marks. Assumes nothing.
+-- One step of the walk over segments, and of the search through a segment's marks, which the first-page rule replaces. Assumes nothing.
 use Prim.Native.Nat.{ℕ, zero, suc, _+_, _*_, _-_, _%_, _≤_, _<_}
 use native.Mathlib.Nat.{mod-lt, sub-zero}
 use native.Mathlib.Numerals.{add-one}
@@ -23,27 +23,23 @@ step h = omega arith
 done : {i n : ℕ} → n ≤ i → n - i ≡ zero
 done h = omega arith
 
-module _ (G : Geometry) (used : List ℕ) (g k : ℕ) (r : Found) where
-  pub scan-hit : k < G .p → at used (g * G .p + k) ≡ 0 → orElse (clearFrom G used g k (G .p - k)) r ≡ At g k
-  unfolding clearFrom
-  scan-hit h e = rw (step h, eq-eqb _ _ e)
+module _ (G : Geometry) (used : List ℕ) (g : ℕ) where
+  -- the search through the marks of segment g, from page k on
+  abbrev scan : ℕ → Found
+  scan k = clearFrom G used g k (G .p - k)
 
-  pub scan-miss : k < G .p → at used (g * G .p + k) ≢ 0 → orElse (clearFrom G used g k (G .p - k)) r ≡ orElse (clearFrom G used g (k + 1) (G .p - (k + 1))) r
+  scan-hit : (k : ℕ) → k < G .p → at used (g * G .p + k) ≡ 0 → scan k ≡ At g k
   unfolding clearFrom
-  scan-miss h e = rw (step h, ne-eqb _ _ e, add-one k)
+  scan-hit k h e = rw (step h, eq-eqb _ _ e)
 
-  pub scan-end : G .p ≤ k → orElse (clearFrom G used g k (G .p - k)) r ≡ r
+  scan-miss : (k : ℕ) → k < G .p → at used (g * G .p + k) ≢ 0 → scan k ≡ scan (k + 1)
   unfolding clearFrom
-  scan-end h = rw (done h)
+  scan-miss k h e = rw (step h, ne-eqb _ _ e, add-one k)
 
--- the marks below k are set: the scan may start there
-pub scan-on : (G : Geometry) (used : List ℕ) (g : ℕ) (r : Found) (k : ℕ) → k ≤ G .p → ((j : ℕ) → j < k → at used (g * G .p + j) ≢ 0)
-    → orElse (clearFrom G used g 0 (G .p - 0)) r ≡ orElse (clearFrom G used g k (G .p - k)) r
-scan-on G used g r zero h m = refl
-scan-on G used g r (suc k) h m =
-    scan-on G used g r k (omega arith) (λ j b. m j (omega arith))
-    ∙ scan-miss G used g k r h (m k (omega arith))
-    ∙ ap (λ x. orElse (clearFrom G used g x (G .p - x)) r) (add-one k)
+  -- the marks below k are set: the search comes to k
+  scan-on : (k : ℕ) → k ≤ G .p → ((j : ℕ) → j < k → at used (g * G .p + j) ≢ 0) → scan 0 ≡ scan k
+  scan-on zero h m = refl
+  scan-on (suc k) h m = scan-on k (omega arith) (λ j b. m j (omega arith)) ∙ scan-miss k h (m k (omega arith)) ∙ ap scan (add-one k)
 
 module _ (G : Geometry) (bad w u : List ℕ) (i : ℕ) where
   -- what is found from the i-th segment on
@@ -70,7 +66,7 @@ module _ (G : Geometry) (bad w u : List ℕ) (i : ℕ) (h : i < G .n) (g : ℕ) 
   free-is = free-at G w u g 0 low
 
   -- one step, by the two tests
-  walk-step : from G bad w u i ≡ cond (usable G bad (view G w u) g) (orElse (clearFrom G u g 0 (G .p - 0)) next) next
+  walk-step : from G bad w u i ≡ cond (usable G bad (view G w u) g) (orElse (scan G u g 0) next) next
   unfolding findFrom
   walk-step = rw (step h, is, add-one i, sub-zero, used-is G w u)
 
@@ -80,14 +76,23 @@ module _ (G : Geometry) (bad w u : List ℕ) (i : ℕ) (h : i < G .n) (g : ℕ) 
   pub walk-full : at bad g ≡ 0 → at w (oFree G + g) ≡ 0 → from G bad w u i ≡ next
   walk-full b f = rw (walk-step, eq-eqb _ _ b, free-is, f)
 
-  -- the marks of a segment below p less its free count are set
-  marked : Held G w u → (k : ℕ) → k < G .p - at w (oFree G + g) → at u (g * G .p + k) ≢ 0
+  abbrev first : ℕ
+  first = G .p - at w (oFree G + g)
+
+  -- the first-page rule: the marks below page p - free are set ..
+  marked : Held G w u → (k : ℕ) → k < first → at u (g * G .p + k) ≢ 0
   marked H k h e =
       let one : at u (g * G .p + k) ≡ 1 = ap (λ x. at x (g * G .p + k)) (sym (used-is G w u)) ∙ counted H .marked g k low (omega (arith, free-is)) in
       omega arith
 
-  pub walk-scan : Held G w u → at bad g ≡ 0 → at w (oFree G + g) ≢ 0
-      → from G bad w u i ≡ orElse (clearFrom G u g (G .p - at w (oFree G + g)) (G .p - (G .p - at w (oFree G + g)))) next
-  walk-scan H b f =
+  -- .. that of page p - free is clear ..
+  clear : Held G w u → first < G .p → at u (g * G .p + first) ≡ 0
+  clear H b = ap (λ x. at x (g * G .p + first)) (sym (used-is G w u)) ∙ counted H .clear g first low b (omega (arith, free-is))
+
+  -- .. so the search stops there
+  pub walk-here : Held G w u → at bad g ≡ 0 → at w (oFree G + g) ≢ 0 → from G bad w u i ≡ At g first
+  walk-here H b f =
       let some : 0 < at w (oFree G + g) = omega arith in
-      rw (walk-step, eq-eqb _ _ b, free-is, lt-ltb _ _ some) (scan-on G u g next (G .p - at w (oFree G + g)) (omega arith) (marked H))
+      let in-it : first < G .p = omega (arith, free-is, counted H .free≤ g) in
+      let found : scan G u g 0 ≡ At g first = scan-on G u g first (omega arith) (marked H) ∙ scan-hit G u g first in-it (clear H in-it) in
+      rw (walk-step, eq-eqb _ _ b, free-is, lt-ltb _ _ some, found)

@@ -152,8 +152,8 @@ pub fn last_listed(geo: Geometry, v: usize, tab: &[u32]) -> LogicalPage
     LogicalPage(wide(tab[i]))
 }
 
-// The first clear page of the first segment from the allocation segment on that is not bad and has one.
-// A segment's used pages are its first ones, p less its free count, so its marks are looked at from there on.
+// The first clear page of the first segment, from the allocation segment on, that is not bad and has one. A segment's used pages are its first ones,
+// and its free count is p less them: so its first clear page is page p - free. No mark is looked at; they are lent because the promise names them.
 pub fn find_page(geo: Geometry, bad: &[u8], tab: &[u32], used: &[u8]) -> Found
     requires { ⌜ Held geo (now tab) (now used) ⌝ }
     requires { ⌜ length (now bad) ≡ geo .n ⌝ }
@@ -173,14 +173,8 @@ pub fn find_page(geo: Geometry, bad: &[u8], tab: &[u32], used: &[u8]) -> Found
             let f = e + g;
             let free = tab[f] as usize;
             if free != 0 {
-                let base = g * geo.p;
-                let mut k = geo.p - free;
-                while k < geo.p {
-                    if used[base + k] == 0 {
-                        break 'walk Found::At(g, k);
-                    }
-                    k += 1;
-                }
+                let first = geo.p - free;
+                break 'walk Found::At(g, first);
             }
         }
         i += 1;

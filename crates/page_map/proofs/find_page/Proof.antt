@@ -1,27 +1,17 @@
--- What is found from the start is what is found from here: one law for each way on, `walk-*` over segments and `scan-*` over marks.
+-- What is found from the start is what is found from here: one law for each way on.
 use Prim.Native.Nat.{ℕ, _+_, _*_, _-_, _%_, _≤_, _<_}
 use native.Mathlib.Nat.{mod-lt}
 use native.Mathlib.Omega.{arith}
 use mathlib.Core.Path.{_≡_, sym, ap, _∙_}
 use mathlib.Core.Logic.{⊎-elim}
 use Rattle.model.specs.Tables.{at, view, oFree}
-use Rattle.model.specs.PageMap.{find, clearFrom, orElse}
-use Rattle.model.proofs.Slots.{part-fits, below-part}
+use Rattle.model.specs.PageMap.{find}
 use Rattle.model.proofs.View.{alloc-at}
-use Rattle.model.proofs.Held.{slots}
 use Rattle.page_map.proofs.Words.{row-of, heads-of}
-use Rattle.page_map.proofs.Walk.{from, find-is, scan-hit, scan-miss, scan-end, walk-bad, walk-full, walk-scan, walk-end}
+use Rattle.page_map.proofs.Walk.{from, find-is, walk-bad, walk-full, walk-here, walk-end}
 use borrow.Author.Needs.{needs}
 use Rattle.page_map.proofs.find_page.Statement.{statement}
 use Rattle.page_map.proofs.find_page.Tie as tie
-
--- of a segment's marks, from page k on
-abbrev Inv-loop : tie.InvT-loop
-Inv-loop geo bad tab used e n h alloc i g f free base k₀ k =
-    (k ≤ geo .p) × (find geo bad (view geo tab used) ≡ orElse (clearFrom geo used g k (geo .p - k)) (from geo bad tab used (i + 1)))
-
-abbrev μ-loop : tie.MeasureT-loop
-μ-loop geo bad tab used e n h alloc i g f free base k₀ k = geo .p - k
 
 -- of the segments, from the i-th on
 abbrev Inv-walk : tie.InvT-walk
@@ -30,36 +20,27 @@ Inv-walk geo bad tab used e n h alloc i₀ i = (i ≤ geo .n) × (find geo bad (
 abbrev μ-walk : tie.MeasureT-walk
 μ-walk geo bad tab used e n h alloc i₀ i = geo .n - i
 
--- the places: the allocation segment read, a segment looked at, its marks scanned, a mark looked at
+-- the places: the allocation segment read, a segment looked at
 abbrev Read : Type 0
-Read = tie.After-wide Inv-loop μ-loop Inv-walk μ-walk
+Read = tie.After-wide Inv-walk μ-walk
 
 abbrev Looked : Type 0
-Looked = tie.Else1 Inv-loop μ-loop Inv-walk μ-walk
+Looked = tie.Else1 Inv-walk μ-walk
 
-abbrev entry : tie.After-shared-slice-known3 Inv-loop μ-loop Inv-walk μ-walk → tie.Start Inv-loop μ-loop Inv-walk μ-walk
+abbrev entry : tie.After-shared-slice-known3 Inv-walk μ-walk → tie.Start Inv-walk μ-walk
 entry c = c .before .before .before
 
-abbrev first : Read → tie.Start Inv-loop μ-loop Inv-walk μ-walk
+abbrev first : Read → tie.Start Inv-walk μ-walk
 first c = entry (c .before .before)
 
 abbrev read : Looked → Read
 read c = c .before .before
 
-abbrev start : Looked → tie.Start Inv-loop μ-loop Inv-walk μ-walk
+abbrev start : Looked → tie.Start Inv-walk μ-walk
 start c = first (read c)
 
-abbrev usable : tie.Then3 Inv-loop μ-loop Inv-walk μ-walk → Looked
+abbrev usable : tie.Then3 Inv-walk μ-walk → Looked
 usable c = c .before .before .before .before
-
-abbrev scanned : tie.After-struct-known2 Inv-loop μ-loop Inv-walk μ-walk → Looked
-scanned c = usable (c .before .before)
-
-abbrev looping : tie.Then4 Inv-loop μ-loop Inv-walk μ-walk → tie.At-loop Inv-loop μ-loop Inv-walk μ-walk
-looping c = c .before .before
-
-abbrev scan : tie.Then4 Inv-loop μ-loop Inv-walk μ-walk → Looked
-scan c = scanned (looping c .before)
 
 -- the segment looked at
 abbrev seg : Looked → ℕ
@@ -73,37 +54,27 @@ is c =
     let a = start c .args in
     ap (λ x. (x + c .before .walk .i) % a .geo .n) (read c .wide .ensures ∙ sym (alloc-at (a .geo) (a .tab .now) (a .used .now)))
 
-walk-holds : tie.Need-walk-holds Inv-loop μ-loop Inv-walk μ-walk
+walk-holds : tie.Need-walk-holds Inv-walk μ-walk
 walk-holds c = (omega arith, find-is _ _ _ _)
 
-loop-holds : tie.Need-loop-holds Inv-loop μ-loop Inv-walk μ-walk
-loop-holds c =
-    let d = scanned c in
-    (omega arith, d .before .walk .inv .1 ∙ walk-scan _ _ _ _ _ (d .if1 .left) (seg d) (is d) (start d .pre .0) (c .before .before .before .before .if2 .taken) (c .before .before .if3 .taken))
-
-loop-again : tie.Need-loop-again Inv-loop μ-loop Inv-walk μ-walk
-loop-again c = let d = c .before .before in (omega arith, looping d .loop .inv .1 ∙ scan-miss _ _ _ _ _ (d .if4 .taken) (c .if5 .left))
-
-walk-again : tie.Need-walk-again Inv-loop μ-loop Inv-walk μ-walk
+walk-again : tie.Need-walk-again Inv-walk μ-walk
 walk-again c =
     let d = c .before .before in
     let here = d .before .walk .inv .1 in (
       omega arith,
-      ⊎-elim (λ w. w .5 .inv .1 ∙ scan-end _ _ _ _ _ (w .7 .left))
-          (⊎-elim (λ w. here ∙ walk-full _ _ _ _ _ (d .if1 .left) (seg d) (is d) (w .0 .taken) (w .2 .left))
-          (λ w. here ∙ walk-bad _ _ _ _ _ (d .if1 .left) (seg d) (is d) (w .left)))
+      ⊎-elim (λ w. here ∙ walk-full _ _ _ _ _ (d .if1 .left) (seg d) (is d) (w .0 .taken) (w .2 .left))
+          (λ w. here ∙ walk-bad _ _ _ _ _ (d .if1 .left) (seg d) (is d) (w .left))
           (c .if2 .came),
     )
 
-returns : tie.Need-returns Inv-loop μ-loop Inv-walk μ-walk
+returns : tie.Need-returns Inv-walk μ-walk
 returns c = sym (c .before .walk .inv .1 ∙ walk-end _ _ _ _ _ (c .if1 .taken))
 
-returns-2 : tie.Need-returns-2 Inv-loop μ-loop Inv-walk μ-walk
-returns-2 c = let d = c .before .before in sym (looping d .loop .inv .1 ∙ scan-hit _ _ _ _ _ (d .if4 .taken) (c .if5 .taken))
-
--- pages, in numbers that fit
-few : (c : Looked) → start c .args .geo .n * start c .args .geo .p ≤ 67107840
-few c = slots (start c .pre .0 .good)
+returns-2 : tie.Need-returns-2 Inv-walk μ-walk
+returns-2 c =
+    let d = usable (c .before) in
+    let here = d .before .walk .inv .1 in
+    sym (here ∙ walk-here _ _ _ _ _ (d .if1 .left) (seg d) (is d) (start d .pre .0) (c .before .before .before .if2 .taken) (c .before .if3 .taken))
 
 -- the free count of the segment looked at is at most p
 room : (c : Looked) → at (start c .args .tab .now) (oFree (start c .args .geo) + seg c) ≤ start c .args .geo .p
@@ -111,72 +82,55 @@ room c = omega (arith, row-of (start c .pre .0) (seg c) (low c))
 
 -- sums, indices and lengths
 
-mul-h : tie.Need-mul-h Inv-loop μ-loop Inv-walk μ-walk
+mul-h : tie.Need-mul-h Inv-walk μ-walk
 mul-h c = omega arith
 
-add-h : tie.Need-add-h Inv-loop μ-loop Inv-walk μ-walk
+add-h : tie.Need-add-h Inv-walk μ-walk
 add-h c = omega arith
 
-mul-wide : tie.Need-mul-wide Inv-loop μ-loop Inv-walk μ-walk
+mul-wide : tie.Need-mul-wide Inv-walk μ-walk
 mul-wide c = omega arith
 
-shared-slice-read-wide : tie.Need-shared-slice-read-wide Inv-loop μ-loop Inv-walk μ-walk
+shared-slice-read-wide : tie.Need-shared-slice-read-wide Inv-walk μ-walk
 shared-slice-read-wide c = omega arith
 
-wide-requires : tie.Need-wide-requires Inv-loop μ-loop Inv-walk μ-walk
+wide-requires : tie.Need-wide-requires Inv-walk μ-walk
 wide-requires c κs = search needs
 
-add-g : tie.Need-add-g Inv-loop μ-loop Inv-walk μ-walk
+add-g : tie.Need-add-g Inv-walk μ-walk
 add-g c = omega (arith, read c .wide .ensures, heads-of (start c .pre .0))
 
-rem-g : tie.Need-rem-g Inv-loop μ-loop Inv-walk μ-walk
+rem-g : tie.Need-rem-g Inv-walk μ-walk
 rem-g c = omega (arith, start c .pre .0 .good .n≥)
 
-shared-slice-read-if2 : tie.Need-shared-slice-read-if2 Inv-loop μ-loop Inv-walk μ-walk
+shared-slice-read-if2 : tie.Need-shared-slice-read-if2 Inv-walk μ-walk
 shared-slice-read-if2 c = omega (arith, low (c .before))
 
-add-f : tie.Need-add-f Inv-loop μ-loop Inv-walk μ-walk
+add-f : tie.Need-add-f Inv-walk μ-walk
 add-f c = omega (arith, low (c .before .before))
 
-mul-free : tie.Need-mul-free Inv-loop μ-loop Inv-walk μ-walk
+mul-free : tie.Need-mul-free Inv-walk μ-walk
 mul-free c = omega (arith, low (c .before .before))
 
-shared-slice-read-free : tie.Need-shared-slice-read-free Inv-loop μ-loop Inv-walk μ-walk
+shared-slice-read-free : tie.Need-shared-slice-read-free Inv-walk μ-walk
 shared-slice-read-free c = omega (arith, low (c .before .before .before))
 
-cast-free : tie.Need-cast-free Inv-loop μ-loop Inv-walk μ-walk
+cast-free : tie.Need-cast-free Inv-walk μ-walk
 cast-free c = let d = c .before .before .before in omega (arith, room d, start d .pre .0 .good .p≤)
 
-mul-base : tie.Need-mul-base Inv-loop μ-loop Inv-walk μ-walk
-mul-base c = let d = usable (c .before) in omega (arith, part-fits (start d .args .geo .p) (low d), few d)
+sub-first : tie.Need-sub-first Inv-walk μ-walk
+sub-first c = omega (arith, room (usable (c .before)))
 
-sub-k : tie.Need-sub-k Inv-loop μ-loop Inv-walk μ-walk
-sub-k c = omega (arith, room (scanned c))
-
-add-if5 : tie.Need-add-if5 Inv-loop μ-loop Inv-walk μ-walk
-add-if5 c = let d = scan c in omega (arith, below-part (start d .args .geo .p) (low d) (c .if4 .taken), few d)
-
-shared-slice-read-if5 : tie.Need-shared-slice-read-if5 Inv-loop μ-loop Inv-walk μ-walk
-shared-slice-read-if5 c = let d = scan (c .before) in omega (arith, below-part (start d .args .geo .p) (low d) (c .before .if4 .taken), start d .pre .0 .tables .used-size)
-
-add-k : tie.Need-add-k Inv-loop μ-loop Inv-walk μ-walk
-add-k c = omega arith
-
-loop-less : tie.Need-loop-less Inv-loop μ-loop Inv-walk μ-walk
-loop-less c = omega arith
-
-add-i : tie.Need-add-i Inv-loop μ-loop Inv-walk μ-walk
+add-i : tie.Need-add-i Inv-walk μ-walk
 add-i c = omega arith
 
-walk-less : tie.Need-walk-less Inv-loop μ-loop Inv-walk μ-walk
+walk-less : tie.Need-walk-less Inv-walk μ-walk
 walk-less c = omega arith
 
 pub find-page-spec : {M : Type 1} → statement M
 find-page-spec =
     tie.close
     (tie.spec
-    Inv-loop
-    μ-loop
     Inv-walk
     μ-walk
     mul-h
@@ -192,14 +146,7 @@ find-page-spec =
     mul-free
     shared-slice-read-free
     cast-free
-    mul-base
-    sub-k
-    loop-holds
-    add-if5
-    shared-slice-read-if5
-    add-k
-    loop-less
-    loop-again
+    sub-first
     add-i
     walk-less
     walk-again
