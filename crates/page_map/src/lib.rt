@@ -152,8 +152,8 @@ pub fn last_listed(geo: Geometry, v: usize, tab: &[u32]) -> LogicalPage
     LogicalPage(wide(tab[i]))
 }
 
-// The first clear page of the first segment, from the allocation segment on, that is not bad and has one. A segment's used pages are its first ones,
-// and its free count is p less them: so its first clear page is page p - free. No mark is looked at; they are lent because the promise names them.
+// The first clear page of the first segment, from the allocation segment on, that is not bad and has one. The first-page rule: a segment's used pages are
+// its first ones, so its first clear page is page p - free. The marks are not looked at; they are lent because the promise names them.
 pub fn find_page(geo: Geometry, bad: &[u8], tab: &[u32], used: &[u8]) -> Found
     requires { ⌜ Held geo (now tab) (now used) ⌝ }
     requires { ⌜ length (now bad) ≡ geo .n ⌝ }

@@ -1,5 +1,5 @@
 -- What is found from the start is what is found from here: one law for each way on.
-use Prim.Native.Nat.{ℕ, _+_, _*_, _-_, _%_, _≤_, _<_}
+use Prim.Native.Nat.{ℕ, _+_, _-_, _%_, _≤_, _<_}
 use native.Mathlib.Nat.{mod-lt}
 use native.Mathlib.Omega.{arith}
 use mathlib.Core.Path.{_≡_, sym, ap, _∙_}
@@ -30,14 +30,14 @@ Looked = tie.Else1 Inv-walk μ-walk
 abbrev entry : tie.After-shared-slice-known3 Inv-walk μ-walk → tie.Start Inv-walk μ-walk
 entry c = c .before .before .before
 
-abbrev first : Read → tie.Start Inv-walk μ-walk
-first c = entry (c .before .before)
+abbrev begun : Read → tie.Start Inv-walk μ-walk
+begun c = entry (c .before .before)
 
 abbrev read : Looked → Read
 read c = c .before .before
 
 abbrev start : Looked → tie.Start Inv-walk μ-walk
-start c = first (read c)
+start c = begun (read c)
 
 abbrev usable : tie.Then3 Inv-walk μ-walk → Looked
 usable c = c .before .before .before .before
