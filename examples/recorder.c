@@ -86,10 +86,19 @@ static void stop(const char *what, const char *why)
 
 /* ---- the part: what a driver of a real one does */
 
+/* A page is programmed once between two erases, and before the higher pages of its segment. */
+static int part_refuses(const struct recorder *r, size_t at)
+{
+    size_t end = (at / PAGES + 1) * PAGES;
+    for (; at < end; at++)
+        if (r->part->marks[at]) return 1;
+    return 0;
+}
+
 static void part_program(struct recorder *r, uint32_t address)
 {
     size_t at = shr_segment_of(&r->geo, address) * PAGES + shr_page_of(&r->geo, address);
-    if (r->part->marks[at]) stop("part", "a page programmed twice");
+    if (part_refuses(r, at)) stop("part", "a page programmed twice, or out of order");
     memcpy(r->part->bytes + at * PAGE, r->unit.bytes.at + at * PAGE, PAGE);
     r->part->marks[at] = 1;
 }
@@ -104,17 +113,16 @@ static void part_erase(struct recorder *r, size_t g)
 /* What a cut leaves of the operation under way: a page with any bytes, or a segment with any bytes and marks. */
 static const char *part_torn(struct recorder *r)
 {
-    size_t at, i, g = r->erasing;
+    size_t at, i, g = r->erasing, a = shr_unit_alloc(&r->geo, &r->unit);
     for (i = 0; g < SEGMENTS && i < PAGES * PAGE; i++) r->part->bytes[g * PAGES * PAGE + i] = (uint8_t)any(256);
     for (i = 0; g < SEGMENTS && i < PAGES; i++) r->part->marks[g * PAGES + i] = (uint8_t)any(2);
     if (g < SEGMENTS) return "a segment torn while it was erased";
-    for (at = 0; at < SEGMENTS * PAGES; at++) { /* the page found is spent, and not programmed */
-        if (!r->unit.used.at[at] || r->unit.marks.at[at]) continue;
-        for (i = 0; i < PAGE; i++) r->part->bytes[at * PAGE + i] = (uint8_t)any(256);
-        r->part->marks[at] = 1;
-        return "a page torn while it was programmed";
-    }
-    return "nothing under way";
+    if (shr_unit_free(&r->geo, &r->unit, a) >= PAGES) return "nothing under way";
+    at = a * PAGES + PAGES - 1 - shr_unit_free(&r->geo, &r->unit, a); /* the allocation segment's last used page: the write that was cut spent it */
+    if (part_refuses(r, at)) return "nothing under way";
+    for (i = 0; i < PAGE; i++) r->part->bytes[at * PAGE + i] = (uint8_t)any(256);
+    r->part->marks[at] = 1;
+    return "a page torn while it was programmed";
 }
 
 /* ---- the checkpoint's file: written beside the old one, which it replaces only when it is whole */
@@ -422,6 +430,7 @@ static int64_t live(struct recorder *r, unsigned life, unsigned long most)
     memset(t, 0, sizeof *t);
     while (answer >= 0 && t->peaks < most) answer = record(r);
     if (answer < 0 && answer != -SHR_DEVICE && answer != -SHR_NO_ROOM) stop("record", shr_refusal_text(answer));
+    if (life == 1 && t->device > 0) stop("record", "a programming refused with power left, before any restore");
     printf("life %u: %lu peaks, %lu checkpoints, %lu segments collected, %lu pages moved, %lu worn out; refused 14: %lu, 5: %lu\n", life,
            t->peaks, t->checkpoints, t->collected, t->moved, t->worn, t->no_room, t->device);
     return answer;

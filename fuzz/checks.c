@@ -245,7 +245,7 @@ static void check_left(const struct call *c, const struct verdict *v) {
 
 void check(const struct call *c, const struct verdict *v) {
     if (v->answer == OPEN_ANSWER) DEMAND(c, c->answer >= 0 || c->answer == -14 || c->answer == -5, "not a collection's answer");
-    else DEMAND(c, c->answer == v->answer, "not the answer that 01 gives");
+    else DEMAND(c, c->answer == v->answer, "not the answer that 01 and 02 give");
     check_lending(c);
     check_left(c, v);
 }

@@ -25,15 +25,23 @@ static void flip(int slice, size_t at) {
     lent[slice].at[at] ^= 1;
 }
 
+// A write that is refused for its order alone.
+static bool out_of_order(const struct call *c) {
+    struct tables b = before(&c->geo);
+    size_t a = find(&c->geo, &b, lent[BAD].before);
+    bool lit = *(uint64_t *)lent[FUSE].before != 0;
+    return lit && !lent[MARKS].before[a] && marked_above(&c->geo, lent[MARKS].before, a);
+}
+
 static void damage_answer(struct call *c) {
     switch (broken()) {
-    case 1: // not the answer that 01 gives
+    case 1: // not the answer that 01 and 02 give
         if (done_well(c, WRITE)) c->answer++;
         break;
-    case 2: // not the answer that 01 gives
+    case 2: // not the answer that 01 and 02 give
         if (c->answer == -22) c->answer = -117;
         break;
-    case 3: // not the answer that 01 gives
+    case 3: // not the answer that 01 and 02 give
         if (c->entry == RESTORE && c->answer == -8) c->answer = -9;
         break;
     case 4: // not a collection's answer
@@ -41,6 +49,9 @@ static void damage_answer(struct call *c) {
         break;
     case 5: // not the answer that a collection gives
         if (collected(c) && c->answer >= 0) c->answer++;
+        break;
+    case 67: // not the answer that 01 and 02 give
+        if (c->entry == WRITE && c->answer == -5 && out_of_order(c)) c->answer = (int64_t)c->length;
         break;
     }
 }
@@ -315,10 +326,18 @@ static size_t unnamed_page(const struct geo *g, bool marked, bool erased) {
     return NONE;
 }
 
+// An unmarked page with a marked one above it, in a segment that is not erased.
+static size_t page_below_a_mark(const struct geo *g) {
+    uint32_t *counts = (uint32_t *)lent[COUNTS].at, *old = (uint32_t *)lent[COUNTS].before;
+    for (size_t i = 0; i < g->n * g->p; i++)
+        if (counts[i / g->p] == old[i / g->p] && !lent[MARKS].at[i] && marked_above(g, lent[MARKS].before, i)) return i;
+    return NONE;
+}
+
 static void damage_flash(const struct call *c) {
     const struct geo *g = &c->geo;
     if (!collected(c)) return;
-    size_t page = unnamed_page(g, broken() == 59, broken() == 60);
+    size_t page = broken() == 68 ? page_below_a_mark(g) : unnamed_page(g, broken() == 59, broken() == 60);
     if (page == NONE) return;
     switch (broken()) {
     case 57: // a collection's programmed marks
@@ -328,6 +347,9 @@ static void damage_flash(const struct call *c) {
     case 59: // a collection programmed a marked page
     case 60: // an erased page's bytes
         flip(BYTES, page * g->s);
+        break;
+    case 68: // a collection programmed below a marked page
+        lent[MARKS].at[page] = 1;
         break;
     }
 }

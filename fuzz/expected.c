@@ -1,4 +1,4 @@
-// The answer that 01 gives for an entry and everything lent to it.
+// The answer that 01 and 02 give for an entry and everything lent to it.
 #include "checks.h"
 
 static bool is_collection(int entry) {
@@ -19,6 +19,7 @@ static struct verdict expected_transfer(const struct call *c, const struct table
     if (a == NONE) return says(-14, 44);
     if (*(uint64_t *)lent[FUSE].before == 0) return says(-5, 45);
     if (lent[MARKS].before[a]) return says(-5, 46);
+    if (marked_above(g, lent[MARKS].before, a)) return says(-5, 49);
     return says((int64_t)c->length, t->map[l] == EMPTY ? 47 : 48);
 }
 

@@ -181,6 +181,13 @@ size_t find(const struct geo *g, const struct tables *t, const uint8_t *bad) {
     return NONE;
 }
 
+// 02: "only if no higher page of its segment has been since the erase".
+bool marked_above(const struct geo *g, const uint8_t *marks, size_t a) {
+    for (size_t i = a + 1; i % g->p; i++)
+        if (marks[i]) return true;
+    return false;
+}
+
 uint64_t total_free(const struct geo *g, const struct tables *t) {
     uint64_t sum = 0;
     for (size_t i = 0; i < g->n; i++) sum += t->free[i];

@@ -1,4 +1,4 @@
-// The rules of 01 that the checks need, written from its sentences and apart from the library.
+// The rules of 01 and 02 that the checks need, written from its sentences and apart from the library.
 #ifndef RULES_H
 #define RULES_H
 #include "lent.h"
@@ -38,6 +38,7 @@ struct tables after(const struct geo *g);
 int unsound(const struct geo *g, const struct tables *t);
 size_t page_of(const struct geo *g, uint32_t word);
 size_t find(const struct geo *g, const struct tables *t, const uint8_t *bad);
+bool marked_above(const struct geo *g, const uint8_t *marks, size_t a);
 uint64_t total_free(const struct geo *g, const struct tables *t);
 uint32_t word_at(const uint8_t *x);
 uint64_t long_at(const uint8_t *x);

@@ -29,7 +29,8 @@ extern "C" {
 
 /* A call's refusals, negated in its answer. Restoring has reasons of its own, below. */
 enum shr_refusal {
-    SHR_DEVICE = 5,    /* write: the device refused the programming, and the page found is spent; collection: it refused the erase */
+    SHR_DEVICE = 5,    /* write: the device refused the programming, since the page's mark or that of a higher page of its segment is set
+                          or the fuse is out, and the page found is spent; collection: it refused the erase */
     SHR_NO_ROOM = 14,  /* write: no segment outside the bad list has a free page; collection: a copy got 14 or 5 */
     SHR_WRONG = 22,    /* geometry or a lent size is wrong, scratch is not zero, past the last logical page, or past the page's end */
     SHR_UNMAPPED = 61, /* read of a logical page that was never written */

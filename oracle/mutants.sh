@@ -1,5 +1,6 @@
 #!/bin/sh
-# A test of the driver: small changes to copies of the originals, one at a time; the driver must report a difference for each.
+# A test of the driver: small changes to copies of the originals and of the flash beneath them, one at a time; the driver must report a difference for
+# each.
 # Runs after build.sh and needs what that left in OUT (default target/oracle); takes a few minutes.
 #   mutants.sh [NAME...]    only these
 set -eu
@@ -63,6 +64,10 @@ mutant counted-when-empty page_gc.rs 'if ret != 0 {
         if ret != 0 {
             pr_err!("garbage collection from list failed");'
 mutant threshold-reached page_core.rs 'free_pages as f64 > total_pages' 'free_pages as f64 >= total_pages'
+# The flash: 02, M-102
+mutant order-not-asked ../flash.rs 'self.marks[at + 1..end]' 'self.marks[end..end]'
+mutant lower-asked-too ../flash.rs 'self.marks[at + 1..end]' 'self.marks[end - self.pages..end]'
+mutant own-mark-unasked ../flash.rs 'self.marks[at] != 0 ||' ''
 # Checkpoint
 mutant crc-of-body page_core.rs 'crc ^ 0xFFFF_FFFF,' 'crc,'
 mutant alloc-at-n page_core.rs 'alloc_segnum >= nr_segments' 'alloc_segnum > nr_segments'

@@ -182,8 +182,10 @@ impl device {
         }
     }
     fn program(&mut self, a: device_address, from: &[u8]) -> bool {
-        let at = a.block() as usize * self.pages + a.segment_page() as usize;
-        if self.marks[at] != 0 || self.fuse == 0 {
+        let row = a.block() as usize * self.pages;
+        let (at, end) = (row + a.segment_page() as usize, row + self.pages);
+        // the page and every higher one of its segment, in one vector loop
+        if self.marks[at..end].iter().fold(0, |all, mark| all | mark) != 0 || self.fuse == 0 {
             return false;
         }
         self.bytes[at * self.size..(at + 1) * self.size].copy_from_slice(from);

@@ -31,6 +31,8 @@ const OF_TIME: [u64; 5] = [0, 40, 30, 20, 10];
 const OF_CALLS: [u64; 5] = [0, 50, 38, 2, 10];
 /// How long the sequences of the exhaustive kind are, if nothing else is said.
 const DEPTH: usize = 5;
+/// So many calls with old checkpoints or fuses meet a programming refused for its order, or are wrong.
+const ENOUGH: u64 = 5_000;
 
 struct Options {
     seed: u64,
@@ -85,6 +87,10 @@ fn kind(name: &str, o: &Options) -> u64 {
         exit(1);
     }
     tally.report(name);
+    if ["restores", "fuses"].contains(&name) && tally.calls >= ENOUGH && tally.disorders == 0 {
+        println!("{name}: no programming was refused for its order in {} calls", tally.calls);
+        exit(3);
+    }
     if name != "exhaustive" {
         println!("    seeds {} to {}", o.seed, o.seed + tally.runs - 1);
     }

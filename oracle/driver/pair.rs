@@ -267,6 +267,11 @@ impl Pair {
         self.rust.flash().counts.iter().map(|&x| x as u64).sum()
     }
 
+    /// Programmings refused for their order alone.
+    pub fn disorders(&self) -> u64 {
+        self.rust.flash().disorders
+    }
+
     /// Whether two queued segments share the least valid count.
     pub fn tied(&self) -> bool {
         let valid = |&k: &usize| self.rust.valid(k);

@@ -23,6 +23,8 @@ pub struct Tally {
     /// Erases done, and collections that found the least valid count more than once in the queue.
     erases: u64,
     ties: u64,
+    /// Programmings refused for their order alone.
+    pub disorders: u64,
     budget: Budget,
     say: bool,
     pub spoil: Option<Field>,
@@ -30,7 +32,7 @@ pub struct Tally {
 
 impl Tally {
     pub fn new(budget: Budget, say: bool, spoil: Option<Field>) -> Tally {
-        Tally { start: Instant::now(), calls: 0, runs: 0, answers: BTreeMap::new(), erases: 0, ties: 0, budget, say, spoil }
+        Tally { start: Instant::now(), calls: 0, runs: 0, answers: BTreeMap::new(), erases: 0, ties: 0, disorders: 0, budget, say, spoil }
     }
 
     pub fn spent(&self) -> bool {
@@ -53,11 +55,12 @@ impl Tally {
         }
         let collects = matches!(call, Call::Collect | Call::List(_) | Call::Threshold(..));
         let tied = collects && pair.tied();
-        let before = pair.erases();
+        let (before, disorders) = (pair.erases(), pair.disorders());
         let answer = pair.step(call)?;
         self.calls += 1;
         self.erases += pair.erases().saturating_sub(before);
         self.ties += tied as u64;
+        self.disorders += pair.disorders() - disorders;
         *self.answers.entry((call.kind(), answer.min(0))).or_default() += 1;
         Ok(answer)
     }
@@ -65,7 +68,10 @@ impl Tally {
     pub fn report(&self, name: &str) {
         let seconds = self.start.elapsed().as_secs_f64();
         println!("{name}: {} calls compared in {} runs, 0 differences, {seconds:.1} s", self.calls, self.runs);
-        println!("    {} erases, {} collections with a tie for the victim", self.erases, self.ties);
+        println!(
+            "    {} erases, {} collections with a tie for the victim, {} programmings refused for their order alone",
+            self.erases, self.ties, self.disorders
+        );
         let said = |answer: i64, count: u64| match answer {
             0 => format!("done x{count}"),
             refusal => format!("{refusal} x{count}"),

@@ -439,6 +439,29 @@ impl<'a> Case<'a> {
         self.call(Call::Encode);
     }
 
+    /// The checkpoint of the tables, kept for a later restore.
+    fn kept(&mut self) -> Vec<u8> {
+        let room = self.lens[Buffer as usize];
+        self.save();
+        self.length(Buffer, room);
+        self.bytes(Buffer)[..plain::checkpoint_bytes(&self.geo)].to_vec()
+    }
+
+    fn restore(&mut self, file: &[u8]) {
+        let room = self.lens[Buffer as usize];
+        self.length(Buffer, file.len());
+        self.fill(Buffer, 0, file);
+        assert!(self.call(Call::Restore) == 0, "a kept checkpoint");
+        self.length(Buffer, room);
+    }
+
+    /// A write of logical page 0 that the device refuses for its order alone, in the originals too.
+    fn out_of_order(&mut self) {
+        let disorders = |case: &Case| case.rust.as_ref().expect("the originals").flash().disorders;
+        let before = disorders(self);
+        assert!(self.page(0, 99) == -5 && disorders(self) == before + 1, "a write out of order");
+    }
+
     /// All nine calls, of which the last four change no state that a wrong size would show in.
     fn all_nine(&mut self, rng: &mut Rng) {
         let (sector, length) = (rng.below((self.geo.e * self.geo.s).clamp(1, 64) as usize) as u64, rng.below(3) as u64);
@@ -811,6 +834,54 @@ fn worn(book: &mut Book, rng: &mut Rng) {
     }
 }
 
+/// Programmings out of order: over an older checkpoint, over a page that a fuse left unmarked, over marks set from outside; by writes and by copies.
+fn orders(book: &mut Book, rng: &mut Rng) {
+    for geo in shapes().into_iter().filter(|geo| geo.n > 1 && geo.p > 1) {
+        let mut case = Case::fresh(book, geo, &[]);
+        let none = case.kept();
+        case.page(0, 1);
+        let first = case.kept();
+        case.pages((1..geo.p).map(|_| 0));
+        case.call(Call::Collect);
+        case.restore(&first);
+        case.page(0, 2);
+        case.restore(&none);
+        case.out_of_order();
+        case.page(0, 3);
+        case.churn(rng);
+        case.call(Call::Collect);
+        case.end();
+
+        let mut case = Case::fresh(book, geo, &[]);
+        let none = case.kept();
+        case.set_fuse(0);
+        case.page(0, 1);
+        case.set_fuse(ENDLESS);
+        case.page(0, 2);
+        case.restore(&none);
+        case.out_of_order();
+        case.page(0, 3);
+        case.churn(rng);
+        case.call(Call::List(2));
+        case.end();
+
+        for k in 0..geo.p as usize {
+            let mut case = Case::fresh(book, geo, &[]);
+            case.poke(Marks, k, rng.pick(&[1, 7, 255]));
+            (0..=k).for_each(|_| assert!(case.page(0, 2) == -5, "a page below a marked one"));
+            case.churn(rng);
+            case.call(Call::Collect);
+            case.end();
+            let mut case = Case::fresh(book, geo, &[]);
+            case.pages((0..geo.p).map(|_| 0));
+            (1..geo.n as usize).for_each(|g| case.poke(Marks, g * geo.p as usize + k, 7));
+            case.call(rng.pick(&[Call::Collect, Call::List(2), Call::Threshold(64, 3)]));
+            case.page(0, 4);
+            case.end();
+        }
+    }
+}
+
 /// Every bad list of a few devices: 14 of a write, and of a collection that finds no page for a copy.
 fn bad_lists(book: &mut Book, rng: &mut Rng) {
     for geo in &shapes()[..4] {
@@ -967,7 +1038,7 @@ fn large(book: &mut Book, rng: &mut Rng) {
 
 type Kind = (&'static str, fn(&mut Book, &mut Rng));
 
-const KINDS: [Kind; 20] = [
+const KINDS: [Kind; 21] = [
     ("examples", examples),
     ("two more of them", more_examples),
     ("geometries", geometries),
@@ -988,6 +1059,7 @@ const KINDS: [Kind; 20] = [
     ("thresholds", thresholds),
     ("runs", runs),
     ("large", large),
+    ("orders", orders),
 ];
 
 /// What each call must have answered at least so often: 0 stands for success.

@@ -1,4 +1,4 @@
-//! Document 01's flash model, with the fuse.
+//! Document 01's flash model, with the fuse and 02's order of programming.
 #[derive(Clone)]
 pub struct Flash {
     pub segments: usize,
@@ -9,6 +9,8 @@ pub struct Flash {
     pub marks: Vec<u8>,
     pub counts: Vec<u32>,
     pub fuse: u64,
+    /// Programmings refused for their order alone.
+    pub disorders: u64,
 }
 
 impl Flash {
@@ -23,6 +25,7 @@ impl Flash {
             marks: vec![1; segments * pages],
             counts: vec![9; segments],
             fuse: u64::MAX,
+            disorders: 0,
         }
     }
 
@@ -55,11 +58,15 @@ impl Flash {
         &self.bytes[at * self.size..][..self.size]
     }
 
-    /// False: refused.
+    /// False: refused. 02, M-102: "only if no higher page of its segment has been since the erase".
     pub fn program(&mut self, g: usize, k: usize, src: &[u8]) -> bool {
         assert!(g < self.segments && k < self.pages && src.len() == self.size, "programming outside the device");
-        let at = g * self.pages + k;
+        let (at, end) = (g * self.pages + k, (g + 1) * self.pages);
         if self.marks[at] != 0 || self.fuse == 0 {
+            return false;
+        }
+        if self.marks[at + 1..end].iter().any(|&mark| mark != 0) {
+            self.disorders += 1;
             return false;
         }
         self.bytes[at * self.size..][..self.size].copy_from_slice(src);

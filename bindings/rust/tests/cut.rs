@@ -181,7 +181,7 @@ fn given_back(
     goes_on(&mut unit, held, rng);
 }
 
-/// A write after the restore, repeated while pages programmed since the checkpoint are met, is read back, and no other page changes.
+/// A write after the restore, repeated while pages programmed since the checkpoint, or below such, are met, is read back, and no other page changes.
 fn goes_on(unit: &mut OwnedFtl, held: &[Result<Vec<u8>, Refusal>], rng: &mut Rng) {
     let (l, s) = (rng.below(unit.geo.e), unit.geo.s);
     let mut page = vec![0; s];

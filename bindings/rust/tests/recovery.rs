@@ -136,3 +136,19 @@ fn a_drained_segment_is_taken_and_only_erased() {
     }
     assert!(drained > 500, "{drained}");
 }
+
+/// Over older checkpoints a clear page may lie below a programmed one: it is refused and spent, and the write is repeated.
+#[test]
+fn an_old_checkpoint_may_leave_a_page_out_of_order() {
+    let mut unit = with(GEO, &[]);
+    let none = unit.checkpoint().unwrap();
+    assert_eq!(unit.write(0, &[1; 4]), Ok(4));
+    let first = unit.checkpoint().unwrap();
+    assert_eq!((unit.write(0, &[2; 4]), unit.write(0, &[3; 4]), unit.collect()), (Ok(4), Ok(4), Ok(0)));
+    assert_eq!((unit.restore(&first), unit.write(0, &[4; 4])), (Ok(0), Ok(4)));
+    assert_eq!((unit.restore(&none), &unit.marks[..3]), (Ok(0), &[0, 1, 0][..]));
+    assert_eq!(unit.write(0, &[5; 4]), Err(Refusal::Device)); // page 0, below page 1
+    assert_eq!(unit.write(0, &[5; 4]), Err(Refusal::Device)); // page 1, marked itself
+    assert_eq!(unit.write(0, &[5; 4]), Ok(4));
+    assert_eq!((unit.view().unwrap().free(0), &unit.marks[..3]), (Some(0), &[0, 1, 1][..]));
+}

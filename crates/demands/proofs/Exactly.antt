@@ -1,5 +1,5 @@
 -- 01's table, "Given exactly when": for each public call, on every input, exactly when it gives each answer.
-use Prim.Native.Nat.{ℕ, zero, suc, _+_, _*_, _≤_, _<_}
+use Prim.Native.Nat.{ℕ, zero, suc, _+_, _≤_, _<_}
 use native.Mathlib.Omega.{arith}
 use mathlib.Core.Path.{_≡_, refl, sym, ap, _∙_, subst}
 use mathlib.Core.Bool.{Bool, true, false, cond, not, _&&_}
@@ -18,7 +18,7 @@ use Rattle.model.specs.declared.Cause.the-variants.{Wrong, Unsound, Unmapped, N
 use Rattle.model.specs.Numbers.{Good, empty, logicalPage, offset}
 use Rattle.model.specs.Tables.{at, wordOf}
 use Rattle.model.specs.Sound.{Mapped}
-use Rattle.model.specs.Device.{Flash, Op, State, state, Out, out, goOn, mayProgram, mayErase, finish}
+use Rattle.model.specs.Device.{Flash, Op, State, state, Out, out, goOn, mayErase, finish}
 use Rattle.model.specs.declared.Found.the-variants.{Nothing}
 use Rattle.model.specs.PageMap.{find}
 use Rattle.model.specs.PageWrite.{whole, writePage}
@@ -670,22 +670,7 @@ module _ (G : Geometry) (bad : List ℕ) where
           back-to (inl h) = ap (λ (y : Out). y .answer) (threshold-above G bad t m st (h .0)) ∙ sym (h .1)
           back-to (inr h) = ap (λ (y : Out). y .answer) (threshold-below G bad t m st (h .0)) ∙ E .whenever (h .1)
 
--- a device's refusals in words: "Programming a page whose mark is set", "a segment whose count has reached the limit", "at 0"
-pub program-refused : (G : Geometry) (g k : ℕ) (f : Flash) → Exactly (mayProgram G g k f ≡ false) ((at (f .marks) (g * G .p + k) ≢ 0) ⊎ (f .fuse ≡ 0))
-unfolding mayProgram
-program-refused G g k f = go (same? (at (f .marks) (g * G .p + k)) 0) (same? (f .fuse) 0)
-  where
-    Goal : Bool → Bool → Type 0
-    Goal a b = Exactly ((a && not b) ≡ false) ((at (f .marks) (g * G .p + k) ≢ 0) ⊎ (f .fuse ≡ 0))
-
-    go : (at (f .marks) (g * G .p + k) ≡ 0) ⊎ (at (f .marks) (g * G .p + k) ≢ 0) → (f .fuse ≡ 0) ⊎ (f .fuse ≢ 0)
-        → Goal (eqb (at (f .marks) (g * G .p + k)) 0) (eqb (f .fuse) 0)
-    go (inr n) z = rw (ne-eqb _ _ n) (record { only = λ _. inl n; whenever = λ _. refl })
-    go (inl e) (inl z) = rw (eq-eqb _ _ e, eq-eqb _ _ z) (record { only = λ _. inr z; whenever = λ _. refl })
-    go (inl e) (inr z) =
-        rw (eq-eqb _ _ e, ne-eqb _ _ z)
-        (record { only = λ q. clash q; whenever = λ h. ⊎-elim (λ n. absurd (n e)) (λ y. absurd (z y)) h })
-
+-- an erase's refusals in words: "a segment whose count has reached the limit", "at 0"; a programming's stand in Programs
 pub erase-refused : (G : Geometry) (g : ℕ) (f : Flash) → Exactly (mayErase G g f ≡ false) ((G .limit ≤ at (f .counts) g) ⊎ (f .fuse ≡ 0))
 unfolding mayErase
 erase-refused G g f = go (less? (at (f .counts) g) (G .limit)) (same? (f .fuse) 0)

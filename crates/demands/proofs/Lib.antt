@@ -5,6 +5,7 @@ pub mod Unchanged
 pub mod Ends
 pub mod Leaves
 pub mod Tested
+pub mod Programs
 pub mod Exactly
 pub mod Signs
 -- units: formatted and opened, what a read shows, marked pages, power on
@@ -19,6 +20,8 @@ pub mod Sparing
 pub mod Protocol
 pub mod Draining
 pub mod Steps
+-- 02, M-102: no programming refused for its order
+pub mod Served
 -- the sort of the queue and the walk over the segments
 pub mod Order
 -- premises that can be met

@@ -8,21 +8,20 @@ use mathlib.Core.Bool.{Bool, true, false, cond}
 use mathlib.Core.Logic.{_⊎_, inl, inr, _≢_}
 use mathlib.Core.List.{List, [], _∷_, _++_}
 use lib.Dec.{eqb}
-use lib.ListN.{length, getD, set, take, replicate, length-replicate}
+use lib.ListN.{length, getD, set, take, drop, replicate, length-replicate}
 use lib.Seq.{getD-set-other}
-use borrow.Author.Tests.{eqb-true}
-use Rattle.model.specs.Lists.{onSlot, zeros}
+use Rattle.model.specs.Lists.{slot, onSlot, zeros, blank}
 use Rattle.model.specs.declared.Geometry.{Geometry}
 use Rattle.model.specs.declared.Answer.{Answer}
 use Rattle.model.specs.declared.Answer.the-variants.{Moved, Refused}
 use Rattle.model.specs.Numbers.{empty, endless, flat, segOf, pageOf}
 use Rattle.model.specs.Tables.{at, tabWords, pages}
-use Rattle.model.specs.Device.{Flash, flash, Op, Program, EraseSeg, State, state, Out, out, finish, behind, goOn, blanked, burn, programmed, performAll, formatFrom, mayProgram, pageAt}
+use Rattle.model.specs.Device.{Flash, flash, Op, Program, EraseSeg, State, state, Out, out, finish, behind, goOn, blanked, burn, programmed, performAll, formatFrom, clearUp, mayProgram, pageAt}
 use Rattle.model.specs.PageWrite.{content, whole, writePage}
 use Rattle.model.specs.PageGc.{victim, finishOf, lastOf, copyOne, collect, collectMore, collectList, collectThreshold}
 use Rattle.model.specs.Checkpoint.{restoredFrom, sealed}
 use Rattle.model.specs.Entry.{Recorder, Lent, lent, stateOf, collecting, formatting, write, collection, listCollection, thresholdCollection}
-use Rattle.model.specs.History.{Call, Format, Open, Read, Write, Collect, CollectList, CollectThreshold, Encode, Restore, lit, run, after, opsOf, contentOf, mapIn, Elsewhere, Spares, Cut, GivesBack}
+use Rattle.model.specs.History.{Call, Format, Open, Read, Write, Collect, CollectList, CollectThreshold, Encode, Restore, lit, run, after, opsOf, contentOf, mapIn, Begins, Elsewhere, Spares, Cut, GivesBack}
 use Rattle.model.specs.Contract.{Fit}
 use Rattle.model.proofs.Working.{Counted}
 use Rattle.model.proofs.Tests.{both}
@@ -33,16 +32,17 @@ use Rattle.model.proofs.Ops.{Holds, SafeOps, perform-append}
 use Rattle.model.proofs.Restore.{Back}
 use Rattle.model.proofs.Sealed.{comes-back}
 use Rattle.model.proofs.Guard.{guarded-by}
-use Rattle.model.proofs.Entry.{stepped, by-kind, Begins, Begun, opened-flash, restored-flash, read-unit, encoding-unit, performs}
+use Rattle.model.proofs.Entry.{stepped, by-kind, Begun, opened-flash, restored-flash, read-unit, encoding-unit, performs}
 use Rattle.model.proofs.Cut.{Encoded, encoded, restores}
 use Rattle.demands.specs.Given.{tab}
 use Rattle.demands.specs.Unit.{Ever, start, tables-lost, lent-fuse, called, cut}
 use Rattle.demands.proofs.Walk.{write-by, finish-by, collect-by, more-by, threshold-by}
+use Rattle.demands.proofs.Programs.{clear-zero}
 
--- every listed programming is of a page whose mark is clear as it is done
+-- every listed programming is of a page that is unmarked, with every higher one of its segment, as it is done
 abbrev pub Clear : Geometry → List Op → Flash → Type 0
 Clear G [] f = Unit {0}
-Clear G (Program g k page ∷ os) f = (at (f .marks) (g * G .p + k) ≡ 0) × Clear G os (programmed G g k page f)
+Clear G (Program g k page ∷ os) f = (clearUp G g k f ≡ true) × Clear G os (programmed G g k page f)
 Clear G (EraseSeg g c ∷ os) f = Clear G os (blanked G g c f)
 
 clear-append : (G : Geometry) (a b : List Op) (f : Flash) → Clear G a f → Clear G b (performAll G a f) → Clear G (a ++ b) f
@@ -74,7 +74,7 @@ module _ (G : Geometry) (bad : List ℕ) where
   unfolding mayProgram
   write-honest l off d st =
       write-by G bad (Honest G (st .flash)) l off d st (none st _)
-      (λ g k e. record { performs = refl; clear = (eqb-true _ _ (both _ _ e .0), tt) })
+      (λ g k e. record { performs = refl; clear = (both _ _ e .0, tt) })
       (λ g k e. record { performs = refl; clear = tt })
 
   abbrev HonestOut : State → Out → Type 0
@@ -119,6 +119,7 @@ module _ (G : Geometry) (bad : List ℕ) where
   collecting-clear : (x : Lent) (o : Out) → Clear G (o .ops) (x .unit .flash) → Clear G (collecting G bad x o .ops) (x .unit .flash)
   collecting-clear x o h = guarded-by (λ y. Clear G (y .ops) (x .unit .flash)) _ _ _ _ x _ tt tt (λ _ _ _ _. h)
 
+  -- every public call, whatever it is lent, programs in order: the page and all higher ones of its segment are unmarked as it is done
   pub run-clear : (c : Call) (r : Recorder) → Clear G (run G bad c r .ops) (r .flash)
   unfolding formatting write collection listCollection thresholdCollection collectList
   run-clear Format r =
@@ -165,10 +166,10 @@ module _ (G : Geometry) (M : List ℕ) (l : ℕ) (m : getD M l empty ≢ empty) 
   Set f = at (f .marks) (flat G a) ≢ 0
 
   -- a programming, done or torn
-  programmed-stays : (f : Flash) → Fit G f → Set f → (g k : ℕ) → g < G.n → k < G.p → (b : List ℕ) → length b ≡ G.s → at (f .marks) (g * G.p + k) ≡ 0
+  programmed-stays : (f : Flash) → Fit G f → Set f → (g k : ℕ) → g < G.n → k < G.p → (b : List ℕ) → length b ≡ G.s → clearUp G g k f ≡ true
       → (v fuse : ℕ) → Stays f (flash (onSlot G.s (g * G.p + k) (λ _. b) (f .bytes)) (set (f .marks) (g * G.p + k) v) (f .counts) fuse)
   programmed-stays f F z g k hg hk b hb c v fuse =
-      let n : flat G a ≢ g * G.p + k = λ e. z (ap (at (f .marks)) e ∙ c) in
+      let n : flat G a ≢ g * G.p + k = λ e. z (ap (at (f .marks)) e ∙ clear-zero G g k f c k (omega arith) hk) in
       record {
         mark = λ e. z (sym (getD-set-other (f .marks) (g * G.p + k) (flat G a) v 0 n) ∙ e);
         bytes = program-other G f F g k hg hk b hb (flat G a) n;
@@ -237,7 +238,7 @@ module _ (G : Geometry) (bad : List ℕ) (r₀ : Recorder) (l : ℕ) (m : getD (
 
   clear-lit : (os : List Op) (f f′ : Flash) → f .marks ≡ f′ .marks → Clear G os f → Clear G os f′
   clear-lit [] f f′ e c = tt
-  clear-lit (Program g k b ∷ os) f f′ e c = (sym (ap (λ x. at x (g * G.p + k)) e) ∙ c .0, clear-lit os _ _ (ap (λ x. set x (g * G.p + k) 1) e) (c .1))
+  clear-lit (Program g k b ∷ os) f f′ e c = (sym (ap (λ x. blank (drop k (slot G.p g x))) e) ∙ c .0, clear-lit os _ _ (ap (λ x. set x (g * G.p + k) 1) e) (c .1))
   clear-lit (EraseSeg g n ∷ os) f f′ e c = clear-lit os _ _ (ap (λ x. onSlot G.p g (λ _. zeros G.p) x) e) c
 
   torn : (c : Call) (r : Recorder) (i : ℕ) (f : Flash) → Kept (r .flash) → Spares G M (take (suc i) (opsOf G bad c r)) → Cut G i (opsOf G bad c r) (r .flash) f

@@ -1,4 +1,4 @@
--- The premises of Leaves, Signs, Seen, Fresh, Marked, Kept and PowerOn can be met: two units of device A and A3, by computation. Exactly asks nothing.
+-- The premises of Leaves, Signs, Seen, Fresh, Marked, Kept, PowerOn and Served can be met: two units of device A and A3, by computation. Exactly asks nothing.
 use Prim.Native.Nat.{ℕ, _≤_}
 use native.Mathlib.Omega.{arith}
 use mathlib.Core.Path.{_≡_, refl}
@@ -6,7 +6,7 @@ use mathlib.Core.List.{List, [], _∷_, _++_}
 use lib.ListN.{take, replicate}
 use Rattle.crc32.specs.Crc32.{plus, add, among, powers, low, remainder, bitsOf, bits, digit, number as valueOf, dividend, crc32}
 use Rattle.model.specs.declared.Geometry.{Geometry}
-use Rattle.model.specs.declared.Answer.the-variants.{Moved}
+use Rattle.model.specs.declared.Answer.the-variants.{Moved, Refused}
 use Rattle.model.specs.declared.Cause.the-variants.{Wrong, Unmapped, NoRoom, Device, CopyNoRoom, CopyDevice, Erase, Reason}
 use Rattle.model.specs.Lists.{without, pushFront, insertBy, sortBy, splice, total, occ, all, every, blank, upTo, zeros}
 use Rattle.model.specs.Numbers.{good?, endless}
@@ -19,7 +19,7 @@ use Rattle.model.specs.PageGc.{sorted, finishOf, drain, collectOf, collect, col
 use Rattle.model.specs.Checkpoint.{fresh, usedBy, word, long, words, wordAt, longAt, wordsAt, head, file, reasonOf, welcome, settleAll, restored}
 use Rattle.model.specs.Entry.{Recorder, recorder, unless, guarded, clean, formatting, opening, read, write, collection, listCollection, thresholdCollection, encoding, restoring}
 use Rattle.model.specs.History.{Call, Format, Open, Read, Write, Collect, CollectList, CollectThreshold, Encode, Restore, run, after, lit}
-use Rattle.model.specs.History.{lost, Since, GivesBack}
+use Rattle.model.specs.History.{lost, Since, GivesBack, InService}
 use Rattle.model.specs.History as history
 use Rattle.model.proofs.Guard.{good-test}
 use Rattle.model.proofs.Witness as witness
@@ -30,6 +30,7 @@ use Rattle.demands.proofs.Signs.{reasons}
 use Rattle.demands.proofs.Fresh.{started}
 use Rattle.demands.proofs.Seen.{read-after-write, read-behind-collection}
 use Rattle.demands.proofs.Kept.{unit-restores}
+use Rattle.demands.proofs.Served.{serves, refused-by-the-fuse}
 use Rattle.demands.proofs.PowerOn.{powered-read, powered-encode, powered-restore}
 
 abbrev A : Geometry
@@ -163,6 +164,36 @@ dark-calls =
       reads = powered-read h 0 4 (zeros 4) (zeros 5 ∷ []);
       encodes = powered-encode h (zeros 68) (zeros 5 ∷ []);
       restores = powered-restore h [] (zeros 6 ∷ []) tt;
+    }
+
+-- in service: pages written, a collection, a restore that is refused, a formatting cut short; then a segment goes bad. A write is refused where no fuse is left
+abbrev late : Recorder
+late = lit endless (after A bad Format (lit 1 (after A bad (Restore [] (zeros 4 ∷ [])) (after A bad (Collect gc) unit))))
+
+pub record Serving : Type 0 where
+  serving : InService A late
+  moved : run A (0 ∷ 1 ∷ []) (put 8 4) late .answer ≡ Moved 4
+  spent : run A bad (put 8 4) (lit 0 late) .answer ≡ Refused Device
+  by-the-fuse : after A bad (put 8 4) (lit 0 late) .flash .fuse ≡ 0
+
+served : Serving
+unfolding
+    without pushFront insertBy sortBy splice total occ all every blank upTo good? view packed names soundb burn mayProgram mayErase formatFrom
+    clearFrom findFrom find invalidate forget oldPage writeAt writePage sorted finishOf drain collectOf collect usedBy reasonOf unless guarded clean
+    formatting opening write collection restoring
+served =
+    let i : InService A (after A bad Open (after A bad Format any)) =
+    serves A (good-test A refl) bad (replicate 16 7) (replicate 4 9) (replicate 2 8) endless refl refl refl (omega arith) in
+    let u : InService A unit =
+    history.called (history.called (history.called i bad (put 0 1) (λ z. absurd z)) bad (put 4 2) (λ z. absurd z)) bad (put 0 3) (λ z. absurd z) in
+    let r : InService A (after A bad (Restore [] (zeros 4 ∷ [])) (after A bad (Collect gc) unit)) =
+    history.called (history.called u bad (Collect gc) (λ z. absurd z)) bad (Restore [] (zeros 4 ∷ [])) (λ _. tt) in
+    let l : InService A late = history.lent-fuse (history.called (history.lent-fuse r 1) bad Format (λ z. absurd z)) endless in
+    record {
+      serving = l;
+      moved = refl;
+      spent = refl;
+      by-the-fuse = refused-by-the-fuse A bad (history.lent-fuse l 0) 8 4 (replicate 4 4) (zeros 4 ∷ zeros 4 ∷ []) (record { left-is = refl; answer-is = refl });
     }
 
 -- why an accepted formatting is left out of `Ordinary`: it erases under the tables

@@ -1,5 +1,5 @@
 -- 01's table, its second column, "Given exactly when"; and the sign of an answer's number.
-use Prim.Native.Nat.{ℕ, suc, _+_, _≤_, _<_}
+use Prim.Native.Nat.{ℕ, suc, _+_, _*_, _≤_, _<_}
 use mathlib.Core.Path.{_≡_}
 use mathlib.Core.Bool.{Bool, true, false}
 use mathlib.Core.Logic.{_⊎_, _≢_}
@@ -15,7 +15,7 @@ use Rattle.model.specs.Lists.{total}
 use Rattle.model.specs.Numbers.{empty, refusal, number, logicalPage}
 use Rattle.model.specs.Tables.{Tables, at, wordOf}
 use Rattle.model.specs.Sound.{Mapped}
-use Rattle.model.specs.Device.{Op, State, state, mayProgram, mayErase}
+use Rattle.model.specs.Device.{Flash, Op, State, state, mayProgram, mayErase}
 use Rattle.model.specs.PageMap.{find}
 use Rattle.model.specs.PageGc.{victim, taken, copyOne, collect}
 use Rattle.model.specs.Checkpoint.{fileSize, reasonOf}
@@ -32,6 +32,11 @@ NoneFree G bad t = (g : ℕ) → g < G .n → at bad g ≡ 0 → at (t .free) g 
 -- the page found, and whether the device programs it
 abbrev pub Finds : Geometry → List ℕ → State → Bool → Type 0
 Finds G bad st programs = (g : ℕ) × (k : ℕ) × (find G bad (st .tab) ≡ At g k) × (mayProgram G g k (st .flash) ≡ programs)
+
+-- 5: "Programming a page whose mark is set is refused"; 02, M-102: "only if no higher page of its segment has been since the erase". The page or a higher
+-- one of its segment is marked
+abbrev pub MarkedFrom : Geometry → ℕ → ℕ → Flash → Type 0
+MarkedFrom G g k f = (j : ℕ) × (k ≤ j) × (j < G .p) × (at (f .marks) (g * G .p + j) ≢ 0)
 
 -- ---- one collection
 

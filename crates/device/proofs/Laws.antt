@@ -7,16 +7,16 @@ use Prim.Native.Nat.{ℕ, _+_, _*_, _-_, _<_, _≤_}
 use native.Mathlib.Nat.{add-sub-cancel-left}
 use native.Mathlib.Numerals.{add-one}
 use native.Mathlib.Omega.{arith}
-use lib.ListN.{length, getD, set, drop, replicate}
-use lib.Seq.{paste, paste-suc, take-length, drop-length}
+use lib.ListN.{length, getD, set, take, drop, replicate}
+use lib.Seq.{paste, paste-suc, take-length, drop-length, drop-drop}
 use borrow.Author.Tests.{eq-eqb, ne-eqb, lt-ltb, le-ltb}
 use borrow.Rule.Slice.PartMut.{putMid}
 use Rattle.model.specs.Lists.{splice, slot, onSlot}
 use Rattle.model.specs.declared.Geometry.{Geometry}
 use Rattle.model.specs.Numbers.{Good}
 use Rattle.model.specs.Tables.{at, region, pages}
-use Rattle.model.specs.Device.{Flash, burn, mayProgram, mayErase}
-use Rattle.model.proofs.Slots.{part-fits, below-part}
+use Rattle.model.specs.Device.{Flash, burn, clearUp, mayProgram, mayErase}
+use Rattle.model.proofs.Slots.{part-fits, below-part, drop-take}
 use Rattle.model.proofs.Regions.{part-back, part-length}
 use Rattle.model.proofs.Content.{splice-whole}
 use Rattle.device.specs.Tried.{Tried}
@@ -57,6 +57,17 @@ module _ {G : Geometry} (K : Good G) {g k : ℕ} (hg : g < G .n) (hk : k < G .p)
   pub page-end : start + G .s ≤ pages G * G .s
   page-end = part-fits (G .s) page-in
 
+  -- the marks of the page and of those above it
+  pub row-end : g * G .p + G .p ≤ pages G
+  row-end = part-fits (G .p) hg
+
+  pub rest-is : (marks : List ℕ) → region (g * G .p + k) (g * G .p + G .p - (g * G .p + k)) marks ≡ drop k (slot (G .p) g marks)
+  rest-is marks =
+      let m : g * G .p + G .p - (g * G .p + k) ≡ G .p - k = omega arith in
+      ap (λ x. region (g * G .p + k) x marks) m
+      ∙ ap (take (G .p - k)) (sym (drop-drop k (g * G .p) marks))
+      ∙ sym (drop-take k (G .p) (drop (g * G .p) marks))
+
   module _ (bytes : List ℕ) (hb : length bytes ≡ pages G * G .s) where
     pub page-size : length (region start (start + G .s - start) bytes) ≡ G .s
     page-size = part-length bytes start (G .s) (omega (arith, page-end))
@@ -82,17 +93,17 @@ module _ {n g : ℕ} (hg : g < n) (m v : ℕ) (w : List ℕ) (hw : length w ≡ 
 
 -- the answer to each outcome of an operation's tests
 module _ (G : Geometry) (g k : ℕ) (f : Flash) {done after : Flash} where
-  pub program-marked : at (f .marks) (g * G .p + k) ≢ 0 → after ≡ f → Tried (mayProgram G g k f) done f false after
+  pub program-marked : clearUp G g k f ≡ false → after ≡ f → Tried (mayProgram G g k f) done f false after
   unfolding mayProgram
-  program-marked h e = rw (ne-eqb _ _ h) (record { ok = refl; left = e })
+  program-marked h e = rw h (record { ok = refl; left = e })
 
-  pub program-out : at (f .marks) (g * G .p + k) ≡ 0 → f .fuse ≡ 0 → after ≡ f → Tried (mayProgram G g k f) done f false after
+  pub program-out : clearUp G g k f ≡ true → f .fuse ≡ 0 → after ≡ f → Tried (mayProgram G g k f) done f false after
   unfolding mayProgram
-  program-out h z e = rw (eq-eqb _ _ h, eq-eqb _ _ z) (record { ok = refl; left = e })
+  program-out h z e = rw (h, eq-eqb _ _ z) (record { ok = refl; left = e })
 
-  pub program-done : at (f .marks) (g * G .p + k) ≡ 0 → f .fuse ≢ 0 → after ≡ done → Tried (mayProgram G g k f) done f true after
+  pub program-done : clearUp G g k f ≡ true → f .fuse ≢ 0 → after ≡ done → Tried (mayProgram G g k f) done f true after
   unfolding mayProgram
-  program-done h z e = rw (eq-eqb _ _ h, ne-eqb _ _ z) (record { ok = refl; left = e })
+  program-done h z e = rw (h, ne-eqb _ _ z) (record { ok = refl; left = e })
 
 module _ (G : Geometry) (g : ℕ) (f : Flash) {done after : Flash} where
   pub erase-worn : G .limit ≤ at (f .counts) g → after ≡ f → Tried (mayErase G g f) done f false after

@@ -2,8 +2,8 @@
 ghost use mathlib.Core.Path.{_≡_};
 ghost use mathlib.Core.List.{List};
 ghost use Prim.Native.Nat.{ℕ, _+_, _*_, _<_, _≤_};
-ghost use lib.ListN.{length, set, replicate};
-ghost use Rattle.model.specs.Lists.{splice, slot};
+ghost use lib.ListN.{length, set, drop, replicate};
+ghost use Rattle.model.specs.Lists.{splice, slot, blank};
 ghost use Rattle.model.specs.Numbers.{Good};
 ghost use Rattle.model.specs.Tables.{Tables, pages};
 ghost use Rattle.model.specs.Device.{flash, burn, mayProgram, programmed, mayErase, erased, blanked, state, formatFrom};
@@ -54,7 +54,20 @@ fn burn(f: u64) -> u64
     if f == 18446744073709551615 { f } else { f - 1 }
 }
 
-// Page k of segment g takes the bytes of page, unless its mark is set or the fuse is out.
+// Whether page k of segment g and every higher page of that segment are unmarked.
+fn clear_up(geo: Geometry, g: usize, k: usize, marks: &[u8]) -> bool
+    requires { ⌜ Good geo ⌝ }
+    requires { ⌜ (length (now marks) ≡ pages geo) × (g < geo .n) × (k < geo .p) ⌝ }
+    ensures { λ r. ⌜ r ≡ blank (drop k (slot (geo .p) g (now (marks .entry)))) ⌝ }
+{
+    let p = geo.p;
+    let row = g * p;
+    let from = row + k;
+    let end = row + p;
+    sound::blank(&marks[from..end])
+}
+
+// Page k of segment g takes the bytes of page, unless its mark or that of a higher page of the segment is set, or the fuse is out.
 pub fn program(
     geo: Geometry,
     g: usize,
@@ -73,14 +86,14 @@ pub fn program(
         (flash (now (bytes .entry)) (now (marks .entry)) c (now (fuse .entry)))
         r (flash (now (bytes .exit)) (now (marks .exit)) c (now (fuse .exit)))) ⌝ }
 {
-    let at = g * geo.p + k;
-    if marks[at] != 0 {
+    if !clear_up(geo, g, k, marks) {
         return false;
     }
     let left = *fuse;
     if left == 0 {
         return false;
     }
+    let at = g * geo.p + k;
     let a = at * geo.s;
     let e = a + geo.s;
     splice(&mut bytes[a..e], 0, page);

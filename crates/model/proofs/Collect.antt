@@ -61,14 +61,14 @@ kept-answer : (G : Geometry) (st : State) (o : Out) (a : Answer) → Kept G st o
 kept-answer G st o a k = search
 
 -- a drained list is empty, unless a copy was refused
-abbrev Emptied : Tables → ℕ → Answer → Type 0
+abbrev pub Emptied : Tables → ℕ → Answer → Type 0
 Emptied t v (Moved m) = at (t .lens) v ≡ 0
 Emptied t v (Refused r) = Unit {0}
 
-record Drained (G : Geometry) (v : ℕ) (st : State) (o : Out) : Type 0 where
-  kept : Kept G st o
-  busy : Busy G v (st .tab) (o .st .tab)
-  emptied : Emptied (o .st .tab) v (o .answer)
+pub record Drained (G : Geometry) (v : ℕ) (st : State) (o : Out) : Type 0 where
+  pub kept : Kept G st o
+  pub busy : Busy G v (st .tab) (o .st .tab)
+  pub emptied : Emptied (o .st .tab) v (o .answer)
 
 module _ (G : Geometry) (v : ℕ) (seg : v < G.n) (t : Tables) (S : Counted G t) (some : at (t .lens) v ≢ 0) where
   abbrev j : ℕ
@@ -115,7 +115,7 @@ module _ (G : Geometry) (K : Good G) (bad : List ℕ) (v : ℕ) (seg : v < G.n) 
         }
 
   -- v is full and its flag is set: what a drain from such a state must show
-  abbrev Draining : State → Out → Type 0
+  abbrev pub Draining : State → Out → Type 0
   Draining st o = Counted G (st .tab) → Fit G (st .flash) → at (st .tab .free) v ≡ 0 → at (st .tab .flags) v ≡ 1 → Drained G v st o
 
   drained-none : (st : State) → at (st .tab .lens) v ≡ 0 → Draining st (finish 0 st)
@@ -147,7 +147,7 @@ module _ (G : Geometry) (K : Good G) (bad : List ℕ) (v : ℕ) (seg : v < G.n) 
             emptied = I .emptied;
           }
 
-  drained : (b : ℕ) (st : State) → at (st .tab .lens) v ≤ b → Draining st (drain G bad b v st)
+  pub drained : (b : ℕ) (st : State) → at (st .tab .lens) v ≤ b → Draining st (drain G bad b v st)
   unfolding drain
   drained zero st h = drained-none st (omega arith)
   drained (suc b) st h = go (eqb (at (st .tab .lens) v) 0) refl (λ st′ e. drained b st′ (omega arith))

@@ -20,7 +20,7 @@ use Rattle.model.specs.Entry.{Recorder, recorder, Lent, lent, Outcome, r
 use Rattle.model.specs.Entry.{stateOf, back, tablesFit, flashFits, pageScratch, seenScratch, allFits, clean, formatting}
 use Rattle.model.specs.Entry.{opening, read, write, collecting, collection, listCollection, thresholdCollection, encoding, restoring}
 use Rattle.model.specs.History.{Call, Format, Open, Read, Write, Collect, CollectList, CollectThreshold, Encode, Restore}
-use Rattle.model.specs.History.{lit, run, after, opsOf, contentOf, Reached, by-opening, by-restoring, called, lent-fuse}
+use Rattle.model.specs.History.{lit, run, after, opsOf, contentOf, Begins, Reached, by-opening, by-restoring, called, lent-fuse}
 use Rattle.model.specs.Contract.{Fit}
 use Rattle.model.proofs.Working.{Counted}
 use Rattle.model.proofs.Address.{flat-inj}
@@ -81,7 +81,7 @@ tables-sound G x a b =
     let h : (length (x .unit .words) ≡ tabWords G) × (length (x .unit .used) ≡ pages G) = tables-test G x a in
     soundb-counted G (tablesOf G x) (sized-view G (x .unit .words) (x .unit .used) (h .0) (h .1)) b
 
-all-fit : (G : Geometry) (bad : List ℕ) (scratch : List ℕ) (x : Lent) → allFits G bad scratch x ≡ true → soundb G (tablesOf G x) ≡ true → Fits G bad x
+pub all-fit : (G : Geometry) (bad : List ℕ) (scratch : List ℕ) (x : Lent) → allFits G bad scratch x ≡ true → soundb G (tablesOf G x) ≡ true → Fits G bad x
 all-fit G bad scratch x a b =
     let t : (i : ℕ) → _ = each (good? G ∷ tablesFit G x ∷ flashFits G (x .unit .flash) ∷ eqb (length bad) (G .n) ∷ clean scratch (x .scratch) ∷ []) a in
     let h : (length (x .unit .words) ≡ tabWords G) × (length (x .unit .used) ≡ pages G) = tables-test G x (t 1) in
@@ -297,18 +297,6 @@ module _ (G : Geometry) (x : Lent) (t : Tables) (o : Outcome) where
   or-flash (inr b) = (ap (λ r. r .flash) (b .unit), b .ops)
 
 -- ---- every call
-
--- an opening and a restore begin anew; every other call is a step
-abbrev pub Begins : Call → Type 0
-Begins Open = Unit {0}
-Begins (Restore b s) = Unit {0}
-Begins Format = ⊥
-Begins (Read sector len o s) = ⊥
-Begins (Write sector len d s) = ⊥
-Begins (Collect s) = ⊥
-Begins (CollectList m s) = ⊥
-Begins (CollectThreshold t m s) = ⊥
-Begins (Encode b s) = ⊥
 
 pub stepped : (G : Geometry) (bad : List ℕ) (c : Call) (r : Recorder) → (Begins c → ⊥) → StepOf G r (run G bad c r)
 unfolding collection listCollection thresholdCollection

@@ -1,4 +1,4 @@
--- The marked examples of document 01, its trace, its limits, and what its traps would get wrong: one table. Each row's calls are run through the
+-- The marked examples of document 01, its trace, its limits, what its traps would get wrong, and 02's M-102: one table. Each row's calls are run through the
 -- public entries, and one equation, by computation, says what every call of every row answers and all that is left behind.
 use Prim.Native.Nat.{ℕ, _+_, _*_, _-_, _%_}
 use mathlib.Core.Path.{_≡_, refl}
@@ -362,6 +362,50 @@ table =
     (flash
     (fill (two 255 255) ++ four 0x77 0x78 0x79 0x7A ++ four 0x61 0x63 0 0 ++ fill (two 255 255))
     (six 0 0 1 1 0 0) (three 1 0 0) endless))
+    -- 02, M-102: after old checkpoints are restored (the files of the first write and of before it), page 0 of segment 0 is clear and page 1 is not: the
+    -- write is refused, and its page is spent
+    ∷ new A
+    (page 0 1 ∷ page 0 2 ∷ gc ∷ load (saved 0 (three 0 none none) (two 1 2)) ∷ page 0 3 ∷ load (saved 0 (three none none none) (two 2 2)) ∷ page 0 4 ∷ [])
+    (moved 4 ∷ moved 4 ∷ moved 0 ∷ moved 0 ∷ moved 4 ∷ moved 0 ∷ refused 5 ∷ [])
+    (mem
+    (tables (three none none none) (two 1 2) (two 1 0) (four 1 0 0 0) (four 0 0 0 0) (two 0 0) (two 0 0) (two 0 0) 0 0)
+    (flash (fill (four 255 3 2 255)) (four 0 1 1 0) (two 1 0) endless))
+    -- a page whose own mark is set is refused and spent; the next one, with a mark below it and none above, is programmed
+    ∷ row A (over A (four 1 0 0 0) endless)
+    (opens ∷ page 0 1 ∷ page 0 2 ∷ [])
+    (moved 0 ∷ refused 5 ∷ moved 4 ∷ [])
+    (mem
+    (tables (three 1 none none) (two 0 2) (two 2 0) (four 1 1 0 0) (four 0 0 0 0) (two 1 0) (two 0 0) (two 0 0) 0 0)
+    (flash (fill (four 255 2 255 255)) (four 1 1 0 0) (two 0 0) endless))
+    -- "A nonzero programmed mark counts as set", on the higher page too; a segment that refused programmings fill is not queued; another
+    -- segment's marks do not count
+    ∷ row A (over A (four 0 7 0 0) endless)
+    (opens ∷ page 0 1 ∷ page 0 2 ∷ gc ∷ page 0 3 ∷ [])
+    (moved 0 ∷ refused 5 ∷ refused 5 ∷ moved 0 ∷ moved 4 ∷ [])
+    (mem
+    (tables (three 2 none none) (two 0 1) (two 2 1) (four 1 1 1 0) (four 0 0 0 0) (two 0 1) (two 0 0) (two 0 0) 1 0)
+    (flash (fill (four 255 255 3 255)) (four 0 7 1 0) (two 0 0) endless))
+    -- a copy refused for its order spends its page and is the collection's 14
+    ∷ row B (over B (six 0 0 0 0 0 2) endless)
+    (opens ∷ page 0 1 ∷ page 1 2 ∷ page 0 3 ∷ gc ∷ [])
+    (moved 0 ∷ moved 4 ∷ moved 4 ∷ moved 4 ∷ refused 14 ∷ [])
+    (mem
+    (tables (four 2 1 none none) (two 0 2) (two 2 1) (six 1 1 1 1 0 0) (six 1 0 0 0 0 0) (two 2 0) (two 0 0) (two 1 0) 1 0)
+    (flash (fill (six 1 2 3 255 255 255)) (six 1 1 1 0 0 2) (two 0 0) endless))
+    -- order and fuse at once: one refusal
+    ∷ row A (over A (four 0 1 0 0) 0)
+    (opens ∷ page 0 1 ∷ [])
+    (moved 0 ∷ refused 5 ∷ [])
+    (mem
+    (tables (three none none none) (two 1 2) (two 1 0) (four 1 0 0 0) (four 0 0 0 0) (two 0 0) (two 0 0) (two 0 0) 0 0)
+    (flash (fill (four 255 255 255 255)) (four 0 1 0 0) (two 0 0) 0))
+    -- p = 1: no page is higher
+    ∷ row (like 2 1 0 1 5) (over (like 2 1 0 1 5) (two 0 1) endless)
+    (opens ∷ page 0 1 ∷ page 0 2 ∷ [])
+    (moved 0 ∷ moved 4 ∷ refused 5 ∷ [])
+    (mem
+    (tables (0 ∷ []) (two 0 0) (two 1 1) (two 1 1) (two 0 0) (two 1 0) (two 0 0) (two 0 0) 1 0)
+    (flash (fill (two 1 255)) (two 1 1) (two 0 0) endless))
     -- a read past its page's end gets 22, mapped or not; an unmapped page 61; over unsound tables 117
     ∷ new A (get 1 4 ∷ get 0 4 ∷ []) (keeps 22 (zeros 4) ∷ keeps 61 (zeros 4) ∷ []) untouched
     ∷ row A (mem (litter 1) (worn endless)) (get 0 4 ∷ []) (keeps 117 (zeros 4) ∷ []) (mem (litter 1) (worn endless))
@@ -383,14 +427,14 @@ table =
     (formats ∷ [])
     (moved 0 ∷ [])
     (mem (litter 1) (flash (fill (four 255 255 7 7)) (four 0 0 1 1) (two 0 4) 0))
-    -- "A nonzero programmed mark counts as set": 2 on page 0.2 gets 5, "the page found is spent"; "stably sorted by valid count": queue 2, 1, 0,
+    -- "A nonzero programmed mark counts as set": 2 on page 0.0 gets 5, "the page found is spent"; "stably sorted by valid count": queue 2, 1, 0,
     -- where the valid counts are 2, 1, 1 and the lists' lengths 2, 1, 0, has victim 1; no room is 14 for a copy and for a write
-    ∷ row B3 (over B3 (three 0 0 2 ++ six 0 0 0 0 0 0) endless)
-    (opens ∷ page 0 2 ∷ page 0 3 ∷ page 0 4 ∷ gc ∷ page 0 6 ∷ page 3 7 ∷ page 3 8 ∷ page 2 9 ∷ page 3 10 ∷ page 2 11 ∷ gc ∷ page 3 13 ∷ [])
-    (moved 0 ∷ moved 4 ∷ moved 4 ∷ refused 5 ∷ moved 0 ∷ moved 4 ∷ moved 4 ∷ moved 4 ∷ moved 4 ∷ moved 4 ∷ moved 4 ∷ refused 14 ∷ refused 14 ∷ [])
+    ∷ row B3 (over B3 (three 2 0 0 ++ six 0 0 0 0 0 0) endless)
+    (opens ∷ page 0 2 ∷ page 0 3 ∷ page 0 4 ∷ page 0 6 ∷ page 3 7 ∷ page 3 8 ∷ page 2 9 ∷ page 3 10 ∷ page 2 11 ∷ gc ∷ page 3 13 ∷ [])
+    (moved 0 ∷ refused 5 ∷ moved 4 ∷ moved 4 ∷ moved 4 ∷ moved 4 ∷ moved 4 ∷ moved 4 ∷ moved 4 ∷ moved 4 ∷ refused 14 ∷ refused 14 ∷ [])
     (mem
     (tables (four 4 none 10 9) (three 0 0 0) (three 1 1 2) (replicate 9 1) (six 0 0 0 0 0 0 ++ three 3 2 0) (three 0 1 2) (three 0 2 0) (three 1 1 1) 2 2)
-    (flash (fill (three 2 3 255 ++ six 6 7 8 9 10 11)) (six 1 1 2 1 1 1 ++ three 1 1 1) (three 0 0 0) endless))
+    (flash (fill (three 255 3 4 ++ six 6 7 8 9 10 11)) (six 2 1 1 1 1 1 ++ three 1 1 1) (three 0 0 0) endless))
     -- "passing bad segments": one marked 9; of a victim's two pages "its last logical page" is copied first, then the other; addresses g·2^w + k
     ∷ with-bad (three 0 9 0)
     (new B3
@@ -400,12 +444,12 @@ table =
     (tables (four 8 0 10 none) (three 2 3 0) (three 1 0 2) (three 1 0 0 ++ six 0 0 0 1 1 1) (six 1 0 0 0 0 0 ++ three 0 2 0) (three 1 0 2) (three 2 0 0) (three 0 0 1) 0 1)
     (flash (fill (three 9 255 255 ++ six 255 255 255 5 4 3)) (six 1 0 0 0 0 0 ++ three 1 1 1) (three 1 0 0) endless)))
     -- fuse 4: "Each one done .. lowers" it, one refused does not; "a copy's 5 spends its page" and is the collection's 14, from the list too
-    ∷ row B (over B (six 0 0 2 0 0 0) 4)
-    (opens ∷ page 3 2 ∷ page 1 3 ∷ page 3 9 ∷ page 1 10 ∷ page 0 11 ∷ gcList 3 ∷ [])
-    (moved 0 ∷ moved 4 ∷ moved 4 ∷ refused 5 ∷ moved 4 ∷ moved 4 ∷ refused 14 ∷ [])
+    ∷ row B (over B (six 2 0 0 0 0 0) 4)
+    (opens ∷ page 3 9 ∷ page 3 2 ∷ page 1 3 ∷ page 1 10 ∷ page 0 11 ∷ gcList 3 ∷ [])
+    (moved 0 ∷ refused 5 ∷ moved 4 ∷ moved 4 ∷ moved 4 ∷ moved 4 ∷ refused 14 ∷ [])
     (mem
-    (tables (four 5 4 none 0) (two 0 0) (two 2 3) (six 1 1 1 1 1 1) (six 3 0 0 1 0 0) (two 1 2) (two 0 0) (two 1 0) 1 0)
-    (flash (fill (six 2 3 255 10 11 255)) (six 1 1 2 1 1 0) (two 0 0) 0))
+    (tables (four 5 4 none 1) (two 0 0) (two 2 3) (six 1 1 1 1 1 1) (six 3 0 0 1 0 0) (two 1 2) (two 0 0) (two 1 0) 1 0)
+    (flash (fill (six 255 2 3 10 11 255)) (six 2 1 1 1 1 0) (two 0 0) 0))
     -- "total free (all segments)", the bad one too
     ∷ with-bad (two 9 0)
     (new (like 2 2 2 2 5)
@@ -415,9 +459,9 @@ table =
     (tables (two 5 none) (two 2 0) (two 0 1) (four 0 0 1 1) (four 0 0 0 0) (two 0 1) (two 1 0) (two 0 1) 1 1)
     (flash (fill (four 255 255 1 2)) (four 0 0 1 1) (two 0 0) endless)))
     -- "reset the record": the valid count is 0 again, though a spent page had it above the list's length
-    ∷ row B (over B (six 0 2 0 0 0 0) endless)
+    ∷ row B (over B (six 2 0 0 0 0 0) endless)
     (opens ∷ page 0 4 ∷ page 0 5 ∷ page 0 6 ∷ gcList 3 ∷ [])
-    (moved 0 ∷ moved 4 ∷ refused 5 ∷ moved 4 ∷ moved 0 ∷ [])
+    (moved 0 ∷ refused 5 ∷ moved 4 ∷ moved 4 ∷ moved 0 ∷ [])
     (mem
     (tables (four 4 none none none) (two 3 2) (two 0 1) (six 0 0 0 1 0 0) (six 0 0 0 0 0 0) (two 0 1) (two 0 0) (two 0 0) 1 0)
     (flash (fill (six 255 255 255 6 255 255)) (six 0 0 0 1 0 0) (two 1 0) endless))

@@ -1,5 +1,5 @@
 -- The fuse: with fuse f below the endless one, a call does the first f of the operations that it does under an endless fuse.
-use Prim.Native.Nat.{ℕ, zero, suc, _+_, _*_, _-_, _≤_, _<_}
+use Prim.Native.Nat.{ℕ, zero, suc, _+_, _-_, _≤_, _<_}
 use native.Mathlib.Omega.{arith}
 use mathlib.Core.Path.{_≡_, refl, sym, ap, _∙_, subst}
 use mathlib.Core.Bool.{Bool, true, false, not, cond, _&&_}
@@ -13,7 +13,7 @@ use Rattle.model.specs.Lists.{splice, total}
 use Rattle.model.specs.Numbers.{Geometry, Answer, Moved, Refused, Cause, NoRoom, Device, Erase, endless}
 use Rattle.model.specs.Tables.{at}
 use Rattle.model.specs.Device.{flash, Op, Program, EraseSeg, raised, State, state, Out, out, burn}
-use Rattle.model.specs.Device.{blanked, mayProgram, mayErase, refuse, finish, behind, goOn, andThen, formatFrom}
+use Rattle.model.specs.Device.{blanked, clearUp, mayProgram, mayErase, refuse, finish, behind, goOn, andThen, formatFrom}
 use Rattle.model.specs.PageMap.{Found, At, Nothing, find}
 use Rattle.model.specs.PageWrite.{whole, oldPage, stored, spent, writeAt, writePage}
 use Rattle.model.specs.PageGc.{ofCopy, copyAnswer, asCopy, victim, taken, cleared, finishOf, lastOf}
@@ -144,7 +144,7 @@ module _ (G : Geometry) where
       → Tracks f (writeAt G r l off d (lit f s)) (writeAt G r l off d (lit endless s))
   unfolding writeAt mayProgram oldPage
   tracks-at f h Nothing l off d s = idle f (Refused NoRoom) s
-  tracks-at f h (At g k) l off d s = go (eqb (at (s .flash .marks) (g * G .p + k)) 0) (same? f 0)
+  tracks-at f h (At g k) l off d s = go (clearUp G g k (s .flash)) (same? f 0)
     where
       page : List ℕ
       page = splice off d (oldPage G s l)

@@ -29,6 +29,7 @@ pub mod Fuse
 pub mod Write
 pub mod Collect
 pub mod Format
+pub mod Inner
 -- checkpoint
 pub mod Base
 pub mod Restore
@@ -37,6 +38,8 @@ pub mod Sealed
 pub mod Guard
 pub mod Outcome
 pub mod Entry
+-- 02, M-102: no programming refused for its order
+pub mod Order
 -- demand 3: what a power cut leaves, and what a checkpoint gives back
 pub mod Cut
 pub mod Round

@@ -1,10 +1,10 @@
--- Document 01, "Flash model": what the device does, its fuse, and the operations that a call does.
+-- Document 01, "Flash model", with 02's order of programming: what the device does, its fuse, and the operations that a call does.
 use Prim.Native.Nat.{ℕ, zero, suc, _+_, _*_, _-_}
 use mathlib.Core.Bool.{Bool, not, cond, _&&_}
 use mathlib.Core.List.{List, [], _∷_, _++_}
 use lib.Dec.{ltb, eqb}
-use lib.ListN.{set, replicate}
-use Rattle.model.specs.Lists.{slot, onSlot}
+use lib.ListN.{set, drop, replicate}
+use Rattle.model.specs.Lists.{slot, onSlot, blank}
 use Rattle.model.specs.Numbers.{Geometry, Answer, Moved, Refused, Cause, endless, flat}
 use Rattle.model.specs.Tables.{Tables, at}
 
@@ -44,9 +44,14 @@ module _ (G : Geometry) where
       (burn (f .fuse))
 
   -- "Programming a page whose mark is set is refused .. ; otherwise its bytes and mark are set." "A nonzero programmed mark counts as set."
+  -- 02, M-102: "a page may be programmed only if no higher page of its segment has been since the erase", "tested with the programmed mark": so
+  -- the marks of page k and of all higher pages of segment g are clear
+  abbrev pub clearUp : ℕ → ℕ → Flash → Bool
+  clearUp g k f = blank (drop k (slot G.p g (f .marks)))
+
   -- "at 0 a programming or an erase is refused"
   unfoldable pub mayProgram : ℕ → ℕ → Flash → Bool
-  mayProgram g k f = eqb (at (f .marks) (g * G.p + k)) 0 && not (eqb (f .fuse) 0)
+  mayProgram g k f = clearUp g k f && not (eqb (f .fuse) 0)
 
   abbrev pub programmed : ℕ → ℕ → List ℕ → Flash → Flash
   programmed g k page f =

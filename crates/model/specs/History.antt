@@ -5,10 +5,12 @@ use mathlib.Core.Logic.{_≢_, _⊎_}
 use mathlib.Core.List.{List, [], _∷_}
 use lib.ListN.{length, getD, set, take}
 use Rattle.model.specs.Lists.{onSlot, zeros}
-use Rattle.model.specs.Numbers.{Geometry, Answer, Moved, Refused, empty, endless, segOf}
-use Rattle.model.specs.Tables.{view, pages}
-use Rattle.model.specs.Device.{Flash, flash, Op, Program, EraseSeg, state, perform}
+use Rattle.model.specs.Numbers.{Geometry, Answer, Moved, Refused, Cause, Wrong, Unsound, Unmapped, NoRoom, Device, CopyNoRoom, CopyDevice, Erase, Reason}
+use Rattle.model.specs.Numbers.{empty, endless, segOf}
+use Rattle.model.specs.Tables.{view, packed, pages}
+use Rattle.model.specs.Device.{Flash, flash, formattedFlash, Op, Program, EraseSeg, state, perform}
 use Rattle.model.specs.PageWrite.{Content, content}
+use Rattle.model.specs.Checkpoint.{fresh}
 use Rattle.model.specs.Entry.{Recorder, recorder, lent, Outcome, formatting, opening, read, write, collection, listCollection, thresholdCollection, encoding, restoring}
 
 -- a public call: what is handed to it beside the recorder, its own buffer and scratch included
@@ -64,6 +66,47 @@ pub data Reached (G : Geometry) (bad : List ℕ) : Recorder → Type 0 where
   called : {r : Recorder} → Reached G bad r → (c : Call) → Reached G bad (after G bad c r)
   lent-fuse : {r : Recorder} → Reached G bad r → (f : ℕ) → Reached G bad (lit f r)
 
+-- ---- in service: 02, M-102, "from formatted flash and fresh tables, with no further opening or restore"
+
+-- an opening and a restore begin anew; no other call does
+abbrev pub Begins : Call → Type 0
+Begins Open = Unit {0}
+Begins (Restore b s) = Unit {0}
+Begins Format = ⊥
+Begins (Read sector len o s) = ⊥
+Begins (Write sector len d s) = ⊥
+Begins (Collect s) = ⊥
+Begins (CollectList m s) = ⊥
+Begins (CollectThreshold t m s) = ⊥
+Begins (Encode b s) = ⊥
+
+abbrev pub IsRefused : Answer → Type 0
+IsRefused (Moved m) = ⊥
+IsRefused (Refused c) = Unit {0}
+
+-- any fuse and bad list may be lent to each call; a refused opening or restore changes nothing, and is none; formatting may come again, whole or cut short
+pub data InService (G : Geometry) : Recorder → Type 0 where
+  delivered : (f : ℕ) → InService G (recorder (packed (fresh G)) (fresh G .used) (formattedFlash G f))
+  lent-fuse : {r : Recorder} → InService G r → (f : ℕ) → InService G (lit f r)
+  called : {r : Recorder} → InService G r → (bad : List ℕ) (c : Call) → (Begins c → IsRefused (run G bad c r .answer)) → InService G (after G bad c r)
+
+-- "refused for this": the answer says that a programming was refused, a write's or a copy's
+abbrev pub AtProgramming : Cause → Type 0
+AtProgramming Wrong = ⊥
+AtProgramming Unsound = ⊥
+AtProgramming Unmapped = ⊥
+AtProgramming NoRoom = ⊥
+AtProgramming Device = Unit {0}
+AtProgramming CopyNoRoom = ⊥
+AtProgramming CopyDevice = Unit {0}
+AtProgramming Erase = ⊥
+AtProgramming (Reason r) = ⊥
+
+-- if so, then because the fuse is out: of an answer, and the flash that is left
+abbrev pub OnlyFuse : Answer → Flash → Type 0
+OnlyFuse (Moved m) f = Unit {0}
+OnlyFuse (Refused c) f = AtProgramming c → f .fuse ≡ 0
+
 -- ---- power cuts
 
 -- "a page being programmed is then marked with unknown bytes, a segment being erased unknown"
@@ -91,10 +134,6 @@ abbrev pub Spares : Geometry → List ℕ → List Op → Type 0
 Spares G M [] = Unit {0}
 Spares G M (Program g k page ∷ os) = Spares G M os
 Spares G M (EraseSeg g c ∷ os) = Elsewhere G M g × Spares G M os
-
-abbrev pub IsRefused : Answer → Type 0
-IsRefused (Moved m) = ⊥
-IsRefused (Refused c) = Unit {0}
 
 -- "no opening, no restore of another" than the file: a refused one changes nothing, and is none
 pub record Keeps (file : List ℕ) (c : Call) (a : Answer) : Type 0 where
