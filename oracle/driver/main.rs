@@ -32,7 +32,7 @@ const OF_CALLS: [u64; 5] = [0, 50, 38, 2, 10];
 /// How long the sequences of the exhaustive kind are, if nothing else is said.
 const DEPTH: usize = 5;
 /// So many calls with old checkpoints or fuses meet a programming refused for its order, or are wrong.
-const ENOUGH: u64 = 5_000;
+const ENOUGH: u64 = 500_000;
 
 struct Options {
     seed: u64,
