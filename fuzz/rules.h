@@ -1,4 +1,4 @@
-// The rules of 01 and 02 that the checks need, written from its sentences and apart from the library.
+// The rules of 01 and 02 that the checks need, written from their sentences and apart from the library.
 #ifndef RULES_H
 #define RULES_H
 #include "lent.h"

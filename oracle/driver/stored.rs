@@ -836,6 +836,17 @@ fn worn(book: &mut Book, rng: &mut Rng) {
 
 /// Programmings out of order: over an older checkpoint, over a page that a fuse left unmarked, over marks set from outside; by writes and by copies.
 fn orders(book: &mut Book, rng: &mut Rng) {
+    let mut case = Case::fresh(book, geometry(1, 2, 4, 1, 2, 5), &[]);
+    let none = case.kept();
+    case.save();
+    case.file_word(44 + 4 * 2, 1);
+    case.seal();
+    case.call(Call::Restore);
+    case.page(0, 1);
+    case.restore(&none);
+    case.out_of_order();
+    case.end();
+
     for geo in shapes().into_iter().filter(|geo| geo.n > 1 && geo.p > 1) {
         let mut case = Case::fresh(book, geo, &[]);
         let none = case.kept();
@@ -868,7 +879,7 @@ fn orders(book: &mut Book, rng: &mut Rng) {
         for k in 0..geo.p as usize {
             let mut case = Case::fresh(book, geo, &[]);
             case.poke(Marks, k, rng.pick(&[1, 7, 255]));
-            (0..=k).for_each(|_| assert!(case.page(0, 2) == -5, "a page below a marked one"));
+            (0..=k).for_each(|_| assert!(case.page(0, 2) == -5, "a marked page, or one below it"));
             case.churn(rng);
             case.call(Call::Collect);
             case.end();

@@ -1,5 +1,5 @@
 -- The device's test of a programming, in words: the page and every higher one of its segment are unmarked.
-use Prim.Native.Nat.{ℕ, zero, suc, _+_, _*_, _-_, _≤_, _<_}
+use Prim.Native.Nat.{ℕ, suc, _+_, _*_, _-_, _≤_, _<_}
 use native.Mathlib.Omega.{arith}
 use mathlib.Core.Path.{_≡_, refl, sym, ap, _∙_}
 use mathlib.Core.Bool.{Bool, true, false, not, _&&_}
@@ -8,23 +8,19 @@ use mathlib.Core.List.{List, [], _∷_}
 use lib.Dec.{eqb}
 use lib.ListN.{length, drop, length-take, length-drop}
 use lib.Seq.{getD-drop}
-use borrow.Author.Tests.{eqb-true, eq-eqb, ne-eqb}
+use borrow.Author.Tests.{eq-eqb, ne-eqb}
 use Rattle.model.specs.Lists.{slot, blank}
 use Rattle.model.specs.declared.Geometry.{Geometry}
 use Rattle.model.specs.Tables.{at}
 use Rattle.model.specs.Device.{Flash, clearUp, mayProgram}
-use Rattle.model.proofs.Tests.{both}
-use Rattle.model.proofs.Slots.{same?, slot-at}
+use Rattle.model.proofs.Slots.{same?, slot-at, same-replicate}
+use Rattle.model.proofs.Guard.{blank-is}
 use Rattle.demands.specs.Given.{Exactly}
 use Rattle.demands.specs.When.{MarkedFrom}
 use Rattle.demands.proofs.Tested.{clash}
 
 blank-at : (xs : List ℕ) → blank xs ≡ true → (i : ℕ) → at xs i ≡ 0
-unfolding blank
-blank-at [] e zero = refl
-blank-at [] e (suc i) = refl
-blank-at (x ∷ xs) e zero = let h : (eqb x 0 ≡ true) × (blank xs ≡ true) = both _ _ e in eqb-true x 0 (h .0)
-blank-at (x ∷ xs) e (suc i) = let h : (eqb x 0 ≡ true) × (blank xs ≡ true) = both _ _ e in blank-at xs (h .1) i
+blank-at xs e i = ap (λ z. at z i) (blank-is xs e) ∙ same-replicate (length xs) 0 i
 
 blank-not : (xs : List ℕ) → blank xs ≡ false → (i : ℕ) × (i < length xs) × (at xs i ≢ 0)
 unfolding blank

@@ -25,7 +25,7 @@ use Rattle.model.specs.Contract.{Fit}
 use Rattle.model.proofs.View.{sized-view}
 use Rattle.model.proofs.Official.{counted-sound, sound-counted, soundb-counted}
 use Rattle.model.proofs.Decide.{counted-test}
-use Rattle.model.proofs.Guard.{both, each, good-test, test-good, tables-test, test-tables, flash-test, zeros-blank}
+use Rattle.model.proofs.Guard.{both, each, good-test, test-good, tables-test, test-tables, flash-test, zeros-blank, blank-is}
 use Rattle.model.proofs.Entry.{Fits}
 use Rattle.demands.specs.Given.{Exactly, tab, stateIn, lentTo, TablesFit, AllFits, SizesRight, TablesSound, Within}
 
@@ -42,13 +42,6 @@ flips-not true e = clash (sym e)
 flips-not false e = refl
 
 -- ---- scratch: `clean` is all zeros, of these sizes
-
-blank-is : (xs : List ℕ) → blank xs ≡ true → xs ≡ zeros (length xs)
-unfolding blank
-blank-is [] e = refl
-blank-is (x ∷ xs) e =
-    let h : (eqb x 0 ≡ true) × (blank xs ≡ true) = both _ _ e in
-    ap (λ y. y ∷ xs) (eqb-true x 0 (h .0)) ∙ ap (λ ys. 0 ∷ ys) (blank-is xs (h .1))
 
 clean-is : (ks : List ℕ) (xs : List (List ℕ)) → clean ks xs ≡ true → xs ≡ map zeros ks
 unfolding clean

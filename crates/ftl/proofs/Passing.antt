@@ -15,11 +15,10 @@ use Rattle.model.specs.Sound.{soundb}
 use Rattle.model.specs.Device.{Flash, State, state, Out}
 use Rattle.model.specs.Contract.{Held, Fit, Ready, Done}
 use Rattle.model.specs.Entry.{Recorder, recorder, Lent, lent, tablesFit, flashFits}
-use Rattle.model.proofs.Guard.{both, good-test, tables-test, flash-test}
+use Rattle.model.proofs.Guard.{both, good-test, tables-test, flash-test, blank-is}
 use Rattle.model.proofs.Working.{Counted}
 use Rattle.model.proofs.View.{sized-view, packed-view, used-is}
 use Rattle.model.proofs.Official.{soundb-counted, counted-sound}
-use Rattle.sound.proofs.Counts.{blank-zeros}
 
 -- the size and the zeros of scratch, and what they say of it
 abbrev pub clean? : ℕ → List ℕ → Bool
@@ -28,7 +27,7 @@ clean? k s = eqb (length s) k && blank s
 pub clean-zeros : (k : ℕ) (s : List ℕ) → clean? k s ≡ true → s ≡ zeros k
 clean-zeros k s e =
     let h : (eqb (length s) k ≡ true) × (blank s ≡ true) = both _ _ e in
-    blank-zeros s (h .1) ∙ ap zeros {x = length s} {y = k} (eqb-true (length s) k (h .0))
+    blank-is s (h .1) ∙ ap zeros {x = length s} {y = k} (eqb-true (length s) k (h .0))
 
 -- lent: the unit x, and scratch for a page and for the soundness test
 module _ (G : Geometry) (bad : List ℕ) (x : Recorder) (page seen : List ℕ) where

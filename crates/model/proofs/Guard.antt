@@ -1,8 +1,8 @@
 -- What the tests of the public entries say when they pass, and how a fact of an entry is shown: of each refusal, and of the deed.
 use Prim.Native.Nat.{ℕ, zero, suc, _*_}
-use mathlib.Core.Path.{_≡_, refl}
+use mathlib.Core.Path.{_≡_, refl, ap, _∙_}
 use mathlib.Core.Bool.{Bool, true, false, _&&_}
-use mathlib.Core.List.{[], _∷_}
+use mathlib.Core.List.{List, [], _∷_}
 use lib.Dec.{eqb}
 use lib.ListN.{length, getD, length-replicate}
 use borrow.Author.Tests.{leb-true, eqb-true, le-leb, eq-eqb}
@@ -72,6 +72,14 @@ pub zeros-blank : (k : ℕ) → blank (zeros k) ≡ true
 unfolding blank
 zeros-blank zero = refl
 zeros-blank (suc k) = zeros-blank k
+
+-- and nothing else is
+pub blank-is : (xs : List ℕ) → blank xs ≡ true → xs ≡ zeros (length xs)
+unfolding blank
+blank-is [] e = refl
+blank-is (x ∷ xs) e =
+    let h : (eqb x 0 ≡ true) × (blank xs ≡ true) = both _ _ e in
+    ap (λ y. y ∷ xs) (eqb-true x 0 (h .0)) ∙ ap (λ ys. 0 ∷ ys) (blank-is xs (h .1))
 
 pub clean-zeros : (k : ℕ) → clean (k ∷ []) (zeros k ∷ []) ≡ true
 unfolding clean

@@ -1,4 +1,4 @@
--- What a call does to tables and flash, inner step by inner step: a page spent, a page stored, a victim taken, a segment erased and reset. What each
+-- What a write or a collection does to tables and flash, inner step by inner step: a page spent, a page stored, a victim taken, a segment erased and reset. What each
 -- of these keeps, every write and every collection keeps.
 use Prim.Native.Nat.{ℕ, zero, suc, _+_, _-_, _≤_, _<_}
 use native.Mathlib.Omega.{arith}
@@ -39,7 +39,11 @@ pub data Inner (G : Geometry) (bad : List ℕ) : State → State → Type 0 wher
 
 pub data Inners (G : Geometry) (bad : List ℕ) : State → State → Type 0 where
   none : (st : State) → Inners G bad st st
-  after : {a b c : State} → Inner G bad a b → Inners G bad b c → Inners G bad a c
+  then : {a b c : State} → Inner G bad a b → Inners G bad b c → Inners G bad a c
+
+pub append : {G : Geometry} {bad : List ℕ} {a b c : State} → Inners G bad a b → Inners G bad b c → Inners G bad a c
+append (none st) js = js
+append (then i is) js = then i (append is js)
 
 module _ (G : Geometry) (K : Good G) (bad : List ℕ) where
   -- sound tables and flash of the right size, step by step
@@ -57,13 +61,9 @@ module _ (G : Geometry) (K : Good G) (bad : List ℕ) where
       → ((a b : State) → Counted G (a .tab) → Fit G (a .flash) → Inner G bad a b → P a → P b)
       → {a b : State} → Inners G bad a b → Counted G (a .tab) → Fit G (a .flash) → P a → P b
   inners-keep P f (none st) S F p = p
-  inners-keep P f (after {a} {b} {c} i is) S F p =
+  inners-keep P f (then {a} {b} {c} i is) S F p =
       let h : Counted G (b .tab) × Fit G (b .flash) = inner-sound i S F in
       inners-keep P f is (h .0) (h .1) (f a b S F i p)
-
-  pub append : {a b c : State} → Inners G bad a b → Inners G bad b c → Inners G bad a c
-  append (none st) js = js
-  append (after i is) js = after i (append is js)
 
   -- a write
   pub write-inners : (st : State) (l off : ℕ) (d : List ℕ) → Counted G (st .tab) → l < G .e → off + length d ≤ G .s
@@ -73,8 +73,8 @@ module _ (G : Geometry) (K : Good G) (bad : List ℕ) where
     where
       at-page : (g k : ℕ) → Next G (st .tab) g k → at bad g ≡ 0 → (b : Bool) → mayProgram G g k (st .flash) ≡ b
           → Inners G bad st (cond b (stored G l (length d) g k (splice off d (oldPage G st l)) st) (spent G g k st) .st)
-      at-page g k N b0 true e = after (stores st l off d g k hl hd N b0 e) (none _)
-      at-page g k N b0 false e = after (spends st g k N b0 e) (none _)
+      at-page g k N b0 true e = then (stores st l off d g k hl hd N b0 e) (none _)
+      at-page g k N b0 false e = then (spends st g k N b0 e) (none _)
 
       go : Full G K (st .tab) S bad (find G bad (st .tab)) ⊎ Free G K (st .tab) S bad (find G bad (st .tab))
           → Inners G bad st (writeAt G (find G bad (st .tab)) l off d st .st)
@@ -115,7 +115,7 @@ module _ (G : Geometry) (K : Good G) (bad : List ℕ) where
     finish-inners st bare off = go (mayErase G v (st .flash)) refl
       where
         go : (b : Bool) → mayErase G v (st .flash) ≡ b → Inners G bad st (cond b (cleared G v st) (refuse Erase st) .st)
-        go true e = after (clears st v seg bare off e) (none _)
+        go true e = then (clears st v seg bare off e) (none _)
         go false e = none st
 
   -- a collection
@@ -132,9 +132,9 @@ module _ (G : Geometry) (K : Good G) (bad : List ℕ) where
 
         of : 0 < st .tab .queued → (o : Out) → Inners G bad st₁ (o .st) → Drained G v st₁ o → (a : Answer) → o .answer ≡ a
             → Inners G bad st (goOn a o (λ st′. finishOf G v st′) .st)
-        of some o is D (Refused r) e = after (takes st some) is
+        of some o is D (Refused r) e = then (takes st some) is
         of some o is D (Moved m) e =
-            after (takes st some)
+            then (takes st some)
             (append is
             (finish-inners v (victim-seg G (st .tab) S some) (o .st) (subst (Emptied (o .st .tab) v) e (D .emptied))
             (D .busy .queue ∙ victim-off G (st .tab) S some)))

@@ -6,10 +6,10 @@ use mathlib.Core.Bool.{Bool, true, false, not, cond, _&&_}
 use mathlib.Core.Logic.{_⊎_, inl, inr, _≢_}
 use mathlib.Core.List.{List, [], _∷_}
 use lib.Dec.{eqb, ltb, leb}
-use lib.ListN.{length, take, length-replicate, getD-replicate}
+use lib.ListN.{length, take, getD-replicate}
 use lib.Seq.{getD-set-other, length-take-le}
-use borrow.Author.Tests.{eqb-true, eqb-false, ltb-true, leb-true}
-use Rattle.model.specs.Lists.{slot, splice, total, blank, zeros}
+use borrow.Author.Tests.{eqb-true, eqb-false, ltb-true, leb-true, not-false}
+use Rattle.model.specs.Lists.{slot, splice, total, blank}
 use Rattle.model.specs.Numbers.{Geometry, Good, good?, logicalPage, offset, Answer, Moved, Refused, Cause, Wrong, Unsound, Unmapped, NoRoom, Device, CopyNoRoom, CopyDevice, Erase, Reason}
 use Rattle.model.specs.Tables.{Tables, at}
 use Rattle.model.specs.Device.{Flash, State, state, Out, out, clearUp, mayProgram, mayErase, raised, blanked, EraseSeg, finish, refuse, behind, goOn, formatFrom}
@@ -25,48 +25,48 @@ use Rattle.model.specs.Contract.{Fit}
 use Rattle.model.proofs.Working.{Counted}
 use Rattle.model.proofs.View.{view-packed}
 use Rattle.model.proofs.Entry.{tab, Fits, all-fit, Stayed, Begun, opened-or, restored-or, by-kind}
-use Rattle.model.proofs.Slots.{same?, part-fits, below-part, place-inj-seg, place-inj-page, zeros-from, slot-at, slot-length, onSlot-same, onSlot-other}
+use Rattle.model.proofs.Slots.{same?, part-fits, below-part, place-inj-seg, place-inj-page, zeros-from, slot-at, slot-length}
 use Rattle.model.proofs.Spend.{Next, spend-sound, spend-free≤, free-same}
 use Rattle.model.proofs.Forget.{forgot}
 use Rattle.model.proofs.Find.{Full, Free, found}
 use Rattle.model.proofs.Guard.{zeros-blank, each, flash-test, guarded-by, unless-by}
 use Rattle.model.proofs.Inner.{Inner, spends, stores, takes, clears, Inners, inners-keep, write-inners, copy-inners, collect-inners, list-inners, threshold-inners}
 use Rattle.model.proofs.Taken.{taken-sound, victim-seg}
+use Rattle.model.proofs.Reset.{wipe-at-same, wipe-at-other}
 use Rattle.model.proofs.Collect.{copied, Kept, collected, collected-list, collected-threshold}
 use Rattle.model.proofs.Write.{Wrote, wrote}
 use Rattle.model.proofs.Content.{blank-fit}
 use Rattle.model.proofs.Format.{formatted}
 
--- every page that was programmed since its segment's erase is one of the used ones
+-- every marked page lies below the first free one of its segment, page p - free
 abbrev pub Ordered : Geometry → State → Type 0
 Ordered G st = (g k : ℕ) → g < G .n → k < G .p → at (st .flash .marks) (g * G .p + k) ≢ 0 → k + at (st .tab .free) g < G .p
 
 module _ (G : Geometry) where
-  -- an erased segment has no mark, the others keep theirs
-  module _ (f : Flash) (F : Fit G f) (v c : ℕ) (hv : v < G .n) where
-    wiped-in : v * G .p + G .p ≤ length (f .marks)
-    wiped-in = rw (F .marks) (part-fits (G .p) hv)
-
-    pub wiped-same : (k : ℕ) → k < G .p → at (blanked G v c f .marks) (v * G .p + k) ≡ 0
-    wiped-same k hk =
-        sym (slot-at (G .p) v (blanked G v c f .marks) k 0 hk)
-        ∙ ap (λ z. at z k) (onSlot-same (G .p) v (λ _. zeros (G .p)) (f .marks) wiped-in (length-replicate (G .p) 0))
-        ∙ getD-replicate (G .p) k 0 0 hk
-
-    pub wiped-other : (j k : ℕ) → j ≢ v → k < G .p → at (blanked G v c f .marks) (j * G .p + k) ≡ at (f .marks) (j * G .p + k)
-    wiped-other j k n hk =
-        sym (slot-at (G .p) j (blanked G v c f .marks) k 0 hk)
-        ∙ ap (λ z. at z k) (onSlot-other (G .p) v j (λ _. zeros (G .p)) (f .marks) wiped-in (length-replicate (G .p) 0) n)
-        ∙ slot-at (G .p) j (f .marks) k 0 hk
-
   -- an erase, whatever else it does to the tables, as long as the other segments' free counts stay
   wiped-ordered : (st : State) (t : Tables) (v c : ℕ) → v < G .n → Fit G (st .flash) → ((j : ℕ) → j ≢ v → at (t .free) j ≡ at (st .tab .free) j)
       → Ordered G st → Ordered G (state t (blanked G v c (st .flash)))
   wiped-ordered st t v c hv F same H g k hg hk m = go (same? g v)
     where
+      within : v * G .p + G .p ≤ length (st .flash .marks)
+      within = rw (F .marks) (part-fits (G .p) hv)
+
       go : (g ≡ v) ⊎ (g ≢ v) → k + at (t .free) g < G .p
-      go (inl e) = absurd (m (ap (λ x. at (blanked G v c (st .flash) .marks) (x * G .p + k)) e ∙ wiped-same (st .flash) F v c hv k hk))
-      go (inr n) = rw (same g n) (H g k hg hk (λ z. m (wiped-other (st .flash) F v c hv g k n hk ∙ z)))
+      go (inl e) = absurd (m (ap (λ x. at (blanked G v c (st .flash) .marks) (x * G .p + k)) e ∙ wipe-at-same (G .p) v (st .flash .marks) within k hk))
+      go (inr n) = rw (same g n) (H g k hg hk (λ z. m (wipe-at-other (G .p) v (st .flash .marks) within g k n hk ∙ z)))
+
+  -- the page that is found is clear, and so are those above it
+  pub found-clear : (st : State) → Fit G (st .flash) → Ordered G st → (g k : ℕ) → Next G (st .tab) g k → clearUp G g k (st .flash) ≡ true
+  found-clear st F H g k N =
+      ap blank
+      (zeros-from (slot (G .p) g (st .flash .marks)) k (G .p) (slot-length (G .p) g (st .flash .marks) (rw (F .marks) (part-fits (G .p) (N .seg))))
+      (λ j a b. slot-at (G .p) g (st .flash .marks) j 0 b ∙ zero-of j (same? (at (st .flash .marks) (g * G .p + j)) 0) a b))
+      ∙ zeros-blank (G .p - k)
+    where
+      zero-of : (j : ℕ) → (at (st .flash .marks) (g * G .p + j) ≡ 0) ⊎ (at (st .flash .marks) (g * G .p + j) ≢ 0) → k ≤ j → j < G .p
+          → at (st .flash .marks) (g * G .p + j) ≡ 0
+      zero-of j (inl e) a b = e
+      zero-of j (inr n) a b = absurd (omega (arith, H g j (N .seg) b n, N .first))
 
 module _ (G : Geometry) (K : Good G) (bad : List ℕ) where
   -- each inner step keeps it
@@ -95,47 +95,30 @@ module _ (G : Geometry) (K : Good G) (bad : List ℕ) where
   step-ordered a b S F (clears st v seg bare off m) H j i hj hi e =
       wiped-ordered G st (cleared G v st .st .tab) v (raised G v (st .flash)) seg F (λ x n. getD-set-other (st .tab .free) v x (G .p) 0 n) H j i hj hi e
 
-  -- the page that is found is clear, and so are those above it
-  pub found-clear : (st : State) → Fit G (st .flash) → Ordered G st → (g k : ℕ) → Next G (st .tab) g k → clearUp G g k (st .flash) ≡ true
-  found-clear st F H g k N =
-      ap blank
-      (zeros-from (slot (G .p) g (st .flash .marks)) k (G .p) (slot-length (G .p) g (st .flash .marks) (rw (F .marks) (part-fits (G .p) (N .seg))))
-      (λ j a b. slot-at (G .p) g (st .flash .marks) j 0 b ∙ zero-of j (same? (at (st .flash .marks) (g * G .p + j)) 0) a b))
-      ∙ zeros-blank (G .p - k)
-    where
-      zero-of : (j : ℕ) → (at (st .flash .marks) (g * G .p + j) ≡ 0) ⊎ (at (st .flash .marks) (g * G .p + j) ≢ 0) → k ≤ j → j < G .p
-          → at (st .flash .marks) (g * G .p + j) ≡ 0
-      zero-of j (inl e) a b = e
-      zero-of j (inr n) a b = absurd (omega (arith, H g j (N .seg) b n, N .first))
-
 -- ---- what the device refuses is refused because the fuse is out
 
-copy-only : (a : Answer) (f : Flash) → OnlyFuse a f → OnlyFuse (copyAnswer a) f
-copy-only (Moved m) f h = tt
-copy-only (Refused Wrong) f h = h
-copy-only (Refused Unsound) f h = h
-copy-only (Refused Unmapped) f h = h
-copy-only (Refused NoRoom) f h = h
-copy-only (Refused Device) f h = h
-copy-only (Refused CopyNoRoom) f h = h
-copy-only (Refused CopyDevice) f h = h
-copy-only (Refused Erase) f h = h
-copy-only (Refused (Reason r)) f h = h
-
-fuse-false : (b : Bool) → (true && not b) ≡ false → b ≡ true
-fuse-false true e = refl
-fuse-false false e = sym e
+copy-only-fuse : (a : Answer) (f : Flash) → OnlyFuse a f → OnlyFuse (copyAnswer a) f
+copy-only-fuse (Moved m) f h = tt
+copy-only-fuse (Refused Wrong) f h = h
+copy-only-fuse (Refused Unsound) f h = h
+copy-only-fuse (Refused Unmapped) f h = h
+copy-only-fuse (Refused NoRoom) f h = h
+copy-only-fuse (Refused Device) f h = h
+copy-only-fuse (Refused CopyNoRoom) f h = h
+copy-only-fuse (Refused CopyDevice) f h = h
+copy-only-fuse (Refused Erase) f h = h
+copy-only-fuse (Refused (Reason r)) f h = h
 
 module _ (G : Geometry) (K : Good G) (bad : List ℕ) where
-  pub write-only : (st : State) → Counted G (st .tab) → Fit G (st .flash) → Ordered G st → (l off : ℕ) (d : List ℕ)
+  pub write-only-fuse : (st : State) → Counted G (st .tab) → Fit G (st .flash) → Ordered G st → (l off : ℕ) (d : List ℕ)
       → OnlyFuse (writePage G bad l off d st .answer) (writePage G bad l off d st .st .flash)
   unfolding writePage writeAt mayProgram
-  write-only st S F H l off d = go (found G K (st .tab) S bad)
+  write-only-fuse st S F H l off d = go (found G K (st .tab) S bad)
     where
       at-page : (g k : ℕ) → Next G (st .tab) g k → (b : Bool) → (clearUp G g k (st .flash) && not (eqb (st .flash .fuse) 0)) ≡ b
           → let o = cond b (stored G l (length d) g k (splice off d (oldPage G st l)) st) (spent G g k st) in OnlyFuse (o .answer) (o .st .flash)
       at-page g k N true e = tt
-      at-page g k N false e = λ _. eqb-true _ _ (fuse-false _ (rw (found-clear G K bad st F H g k N) at e))
+      at-page g k N false e = λ _. eqb-true _ _ (not-false _ (rw (found-clear G st F H g k N) at e))
 
       go : Full G K (st .tab) S bad (find G bad (st .tab)) ⊎ Free G K (st .tab) S bad (find G bad (st .tab))
           → let o = writeAt G (find G bad (st .tab)) l off d st in OnlyFuse (o .answer) (o .st .flash)
@@ -143,11 +126,11 @@ module _ (G : Geometry) (K : Good G) (bad : List ℕ) where
       go (inr free) = rw (free .is) (at-page (free .seg) _ (free .next) _ refl)
 
   module _ (v : ℕ) (seg : v < G .n) where
-    drain-only : (b : ℕ) (st : State) → Counted G (st .tab) → Fit G (st .flash) → Ordered G st
+    drain-only-fuse : (b : ℕ) (st : State) → Counted G (st .tab) → Fit G (st .flash) → Ordered G st
         → OnlyFuse (drain G bad b v st .answer) (drain G bad b v st .st .flash)
     unfolding drain
-    drain-only zero st S F H = tt
-    drain-only (suc b) st S F H = go (eqb (at (st .tab .lens) v) 0) refl (λ st′ S′ F′ H′. drain-only b st′ S′ F′ H′)
+    drain-only-fuse zero st S F H = tt
+    drain-only-fuse (suc b) st S F H = go (eqb (at (st .tab .lens) v) 0) refl (λ st′ S′ F′ H′. drain-only-fuse b st′ S′ F′ H′)
       where
         l : ℕ
         l = lastOf G v (st .tab)
@@ -171,12 +154,12 @@ module _ (G : Geometry) (K : Good G) (bad : List ℕ) where
         go : (x : Bool) → eqb (at (st .tab .lens) v) 0 ≡ x → More
             → let o = cond x (finish 0 st) (goOn (c .answer) c (λ st′. drain G bad b v st′)) in OnlyFuse (o .answer) (o .st .flash)
         go true e ih = tt
-        go false e ih = next (eqb-false _ _ e) ih (c .answer) (copy-only (w .answer) (w .st .flash) (write-only st S F H l 0 (whole G st l)))
+        go false e ih = next (eqb-false _ _ e) ih (c .answer) (copy-only-fuse (w .answer) (w .st .flash) (write-only-fuse st S F H l 0 (whole G st l)))
 
   module _ (st : State) (S : Counted G (st .tab)) (F : Fit G (st .flash)) (H : Ordered G st) where
-    pub collect-only : OnlyFuse (collect G bad st .answer) (collect G bad st .st .flash)
+    pub collect-only-fuse : OnlyFuse (collect G bad st .answer) (collect G bad st .st .flash)
     unfolding collect collectOf finishOf
-    collect-only = go (eqb (st .tab .queued) 0) refl
+    collect-only-fuse = go (eqb (st .tab .queued) 0) refl
       where
         v : ℕ
         v = victim (st .tab)
@@ -199,13 +182,13 @@ module _ (G : Geometry) (K : Good G) (bad : List ℕ) where
         go false e =
             let n : st .tab .queued ≢ 0 = eqb-false _ _ e in
             let some : 0 < st .tab .queued = omega arith in
-            of (d .answer) (drain-only v (victim-seg G (st .tab) S some) (G .p) _ (taken-sound G (st .tab) S some) F H)
+            of (d .answer) (drain-only-fuse v (victim-seg G (st .tab) S some) (G .p) _ (taken-sound G (st .tab) S some) F H)
 
-  more-only : (m c : ℕ) (st : State) → Counted G (st .tab) → Fit G (st .flash) → Ordered G st
+  more-only-fuse : (m c : ℕ) (st : State) → Counted G (st .tab) → Fit G (st .flash) → Ordered G st
       → OnlyFuse (collectMore G bad m c st .answer) (collectMore G bad m c st .st .flash)
   unfolding collectMore
-  more-only zero c st S F H = tt
-  more-only (suc m) c st S F H = next (o .answer) (collect-only st S F H) (λ st′ S′ F′ H′. more-only m (suc c) st′ S′ F′ H′)
+  more-only-fuse zero c st S F H = tt
+  more-only-fuse (suc m) c st S F H = next (o .answer) (collect-only-fuse st S F H) (λ st′ S′ F′ H′. more-only-fuse m (suc c) st′ S′ F′ H′)
     where
       o : Out
       o = collect G bad st
@@ -230,19 +213,19 @@ module _ (G : Geometry) (K : Good G) (bad : List ℕ) where
           pick (eqb (o .st .tab .queued) 0)
           (ih (o .st) (C .sound) (C .fit) (inners-keep G K bad (Ordered G) (step-ordered G K bad) (collect-inners G K bad st S F) S F H))
 
-  pub list-only : (m : ℕ) (st : State) → Counted G (st .tab) → Fit G (st .flash) → Ordered G st
+  pub list-only-fuse : (m : ℕ) (st : State) → Counted G (st .tab) → Fit G (st .flash) → Ordered G st
       → OnlyFuse (collectList G bad m st .answer) (collectList G bad m st .st .flash)
   unfolding collectList
-  list-only m st S F H = more-only m 0 st S F H
+  list-only-fuse m st S F H = more-only-fuse m 0 st S F H
 
-  pub threshold-only : (threshold m : ℕ) (st : State) → Counted G (st .tab) → Fit G (st .flash) → Ordered G st
+  pub threshold-only-fuse : (threshold m : ℕ) (st : State) → Counted G (st .tab) → Fit G (st .flash) → Ordered G st
       → OnlyFuse (collectThreshold G bad threshold m st .answer) (collectThreshold G bad threshold m st .st .flash)
   unfolding collectThreshold
-  threshold-only threshold m st S F H = go (ltb threshold (total (st .tab .free)))
+  threshold-only-fuse threshold m st S F H = go (ltb threshold (total (st .tab .free)))
     where
       go : (b : Bool) → let o = cond b (finish 0 st) (collectList G bad m st) in OnlyFuse (o .answer) (o .st .flash)
       go true = tt
-      go false = list-only m st S F H
+      go false = list-only-fuse m st S F H
 
 -- ---- the calls
 
@@ -293,7 +276,7 @@ module _ (G : Geometry) (bad : List ℕ) where
       let W : Wrote G (stateOf G x) l off (take len d) (writePage G bad l off (take len d) (stateOf G x)) = wrote G K bad (stateOf G x) S F l off (take len d) hl hd in
       back-orderly x (writePage G bad l off (take len d) (stateOf G x)) (W .sound)
       (λ H. inners-keep G K bad (Ordered G) (step-ordered G K bad) (write-inners G K bad (stateOf G x) l off (take len d) S hl hd) S F H)
-      (λ H. write-only G K bad (stateOf G x) S F H l off (take len d)))
+      (λ H. write-only-fuse G K bad (stateOf G x) S F H l off (take len d)))
 
   read-orderly : (sector len : ℕ) (x : Lent) → Orderly G (x .unit) (read G sector len x)
   unfolding read
@@ -342,13 +325,13 @@ module _ (G : Geometry) (bad : List ℕ) where
   call-orderly (Read sector len o s) r n = read-orderly sector len (lent r o s)
   call-orderly (Write sector len d s) r n = write-orderly sector len d (lent r [] s)
   call-orderly (Collect s) r n =
-      collecting-orderly (lent r [] s) _ (λ K S F. collected G K bad _ S F) (λ K S F. collect-inners G K bad _ S F) (λ K S F H. collect-only G K bad _ S F H)
+      collecting-orderly (lent r [] s) _ (λ K S F. collected G K bad _ S F) (λ K S F. collect-inners G K bad _ S F) (λ K S F H. collect-only-fuse G K bad _ S F H)
   call-orderly (CollectList m s) r n =
       collecting-orderly (lent r [] s) _ (λ K S F. collected-list G K bad m _ S F) (λ K S F. list-inners G K bad m _ S F)
-      (λ K S F H. list-only G K bad m _ S F H)
+      (λ K S F H. list-only-fuse G K bad m _ S F H)
   call-orderly (CollectThreshold t m s) r n =
       collecting-orderly (lent r [] s) _ (λ K S F. collected-threshold G K bad t m _ S F) (λ K S F. threshold-inners G K bad t m _ S F)
-      (λ K S F H. threshold-only G K bad t m _ S F H)
+      (λ K S F H. threshold-only-fuse G K bad t m _ S F H)
   call-orderly (Encode b s) r n = encoding-orderly (lent r b s)
   call-orderly (Restore b s) r n = absurd (n tt)
 
@@ -370,13 +353,13 @@ module _ (G : Geometry) (bad : List ℕ) where
 
 module _ (G : Geometry) where
   -- an opening and a restore ask the device for nothing
-  opening-only : (x : Lent) → OnlyFuse (opening G x .answer) (opening G x .left .unit .flash)
+  opening-only-fuse : (x : Lent) → OnlyFuse (opening G x .answer) (opening G x .left .unit .flash)
   unfolding opening
-  opening-only x = guarded-by (λ o. OnlyFuse (o .answer) (o .left .unit .flash)) _ _ _ _ x _ (λ z. absurd z) (λ z. absurd z) (λ _ _ _ _. tt)
+  opening-only-fuse x = guarded-by (λ o. OnlyFuse (o .answer) (o .left .unit .flash)) _ _ _ _ x _ (λ z. absurd z) (λ z. absurd z) (λ _ _ _ _. tt)
 
-  restoring-only : (b : List ℕ) (x : Lent) → OnlyFuse (restoring G b x .answer) (restoring G b x .left .unit .flash)
+  restoring-only-fuse : (b : List ℕ) (x : Lent) → OnlyFuse (restoring G b x .answer) (restoring G b x .left .unit .flash)
   unfolding restoring
-  restoring-only b x =
+  restoring-only-fuse b x =
       guarded-by (λ o. OnlyFuse (o .answer) (o .left .unit .flash)) _ _ _ _ x _ (λ z. absurd z) (λ z. absurd z)
       (λ _ _ _ _. unless-by (λ o. OnlyFuse (o .answer) (o .left .unit .flash)) _ _ x _ (λ z. absurd z) (λ _. tt))
 
@@ -388,6 +371,6 @@ module _ (G : Geometry) where
   -- "no call is ever refused for this": in service a call that is refused at a programming is refused because the fuse is out
   pub never-for-order : {r : Recorder} → InService G r → (bad : List ℕ) (c : Call) → OnlyFuse (run G bad c r .answer) (after G bad c r .flash)
   never-for-order {r} h bad c =
-      by-kind (λ c. OnlyFuse (run G bad c r .answer) (after G bad c r .flash)) (opening-only (lent r [] [])) (λ b s. restoring-only b (lent r [] s))
+      by-kind (λ c. OnlyFuse (run G bad c r .answer) (after G bad c r .flash)) (opening-only-fuse (lent r [] [])) (λ b s. restoring-only-fuse b (lent r [] s))
       (λ c n. call-orderly G bad c r n .only (in-service h))
       c

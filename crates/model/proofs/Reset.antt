@@ -34,6 +34,12 @@ module _ (p v : ℕ) (xs : List ℕ) (h : v * p + p ≤ length xs) where
   wipe-other : (j : ℕ) → j ≢ v → slot p j (wipe p v xs) ≡ slot p j xs
   wipe-other j n = onSlot-other p v j (λ _. zeros p) xs h (length-replicate p 0) n
 
+  pub wipe-at-same : (k : ℕ) → k < p → at (onSlot p v (λ _. zeros p) xs) (v * p + k) ≡ 0
+  wipe-at-same k b = sym (slot-at p v (wipe p v xs) k 0 b) ∙ ap (λ z. at z k) wipe-same ∙ getD-replicate p k 0 0 b
+
+  pub wipe-at-other : (j k : ℕ) → j ≢ v → k < p → at (onSlot p v (λ _. zeros p) xs) (j * p + k) ≡ at xs (j * p + k)
+  wipe-at-other j k n b = sym (slot-at p j (wipe p v xs) k 0 b) ∙ ap (λ z. at z k) (wipe-other j n) ∙ slot-at p j xs k 0 b
+
 module _ (G : Geometry) (t : Tables) (S : Counted G t) (v : ℕ) (seg : v < G.n) (bare : at (t .lens) v ≡ 0) where
   none-listed : (l : ℕ) → occ l (listOf G t v) ≡ 0
   none-listed l = rw bare (occ-nil l)
@@ -47,16 +53,10 @@ module _ (G : Geometry) (t : Tables) (S : Counted G t) (v : ℕ) (seg : v < G.n)
     t′ = freed G v t
 
     used-same : (k : ℕ) → k < G.p → at (t′ .used) (v * G.p + k) ≡ 0
-    used-same k h =
-        sym (slot-at G.p v (t′ .used) k 0 h)
-        ∙ ap (λ z. at z k) (wipe-same G.p v (t .used) (in-used (S .sized) seg))
-        ∙ getD-replicate G.p k 0 0 h
+    used-same = wipe-at-same G.p v (t .used) (in-used (S .sized) seg)
 
     used-other : (j k : ℕ) → j ≢ v → k < G.p → at (t′ .used) (j * G.p + k) ≡ at (t .used) (j * G.p + k)
-    used-other j k n h =
-        sym (slot-at G.p j (t′ .used) k 0 h)
-        ∙ ap (λ z. at z k) (wipe-other G.p v (t .used) (in-used (S .sized) seg) j n)
-        ∙ slot-at G.p j (t .used) k 0 h
+    used-other = wipe-at-other G.p v (t .used) (in-used (S .sized) seg)
 
     free-same : at (t′ .free) v ≡ G.p
     free-same = getD-set-same (t .free) v G.p 0 (in-free (S .sized) seg)

@@ -2,19 +2,18 @@
 use Prim.Native.Nat.{ℕ, suc, _+_, _-_, _≤_, _<_}
 use native.Mathlib.Numerals.{add-one}
 use native.Mathlib.Omega.{arith}
-use mathlib.Core.Path.{_≡_, refl, sym, ap, ap₂, _∙_}
+use mathlib.Core.Path.{_≡_, refl, sym, ap, _∙_}
 use mathlib.Core.Bool.{Bool, true, false}
 use mathlib.Core.List.{List, [], _∷_}
-use lib.Dec.{eqb}
 use lib.ListN.{length, drop, drop-of-length-le}
 use lib.Seq.{drop-cons}
 use borrow.Author.Count.{below-more}
-use borrow.Author.Tests.{eq-eqb, ne-eqb, eqb-true}
-use Rattle.model.specs.Lists.{blank, total, zeros}
+use borrow.Author.Tests.{eq-eqb, ne-eqb}
+use Rattle.model.specs.Lists.{blank, total}
 use Rattle.model.specs.Tables.{at, region}
 use Rattle.model.proofs.Regions.{region-at, region-length}
 use Rattle.model.proofs.Official.{Says}
-use Rattle.model.proofs.Guard.{both}
+use Rattle.model.proofs.Guard.{blank-is}
 use Rattle.model.proofs.Base.{same-replicate}
 use Rattle.sound.specs.Steps.{Every, unlike}
 use Rattle.sound.proofs.Says.{says-iff}
@@ -65,15 +64,8 @@ module _ (v : ℕ) (s : List ℕ) (i : ℕ) where
   upto-more here {a} e h = rw e (says-iff a (λ all. below-more _ i all here) (λ all k l. all k (omega arith)) h)
 
 -- the test of a scratch: it passes exactly where every element is 0
-pub blank-zeros : (s : List ℕ) → blank s ≡ true → s ≡ zeros (length s)
-unfolding blank
-blank-zeros [] e = refl
-blank-zeros (x ∷ xs) e =
-    let h : (eqb x 0 ≡ true) × (blank xs ≡ true) = both (eqb x 0) (blank xs) e in
-    ap₂ _∷_ (eqb-true x 0 (h .0)) (blank-zeros xs (h .1))
-
 pub blank-every : (s : List ℕ) → blank s ≡ true → Every 0 s
-blank-every s e k l = ap (λ z. at z k) (blank-zeros s e) ∙ same-replicate (length s) 0 k
+blank-every s e k l = ap (λ z. at z k) (blank-is s e) ∙ same-replicate (length s) 0 k
 
 pub every-blank : (s : List ℕ) → Every 0 s → blank s ≡ true
 unfolding blank

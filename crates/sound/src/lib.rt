@@ -41,7 +41,7 @@ fn every32(s: &[u32], v: u32) -> bool
     same
 }
 
-// Whether a scratch of bytes is all zero.
+// Whether bytes, a scratch or marks, are all zero.
 pub fn blank(s: &[u8]) -> bool
     ensures { λ r. ⌜ r ≡ blank (now (s .entry)) ⌝ }
 {
