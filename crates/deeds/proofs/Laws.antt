@@ -15,6 +15,7 @@ use mir.ValLaws.{toZ-ofZ}
 use borrow.Author.Needs.{sfits-of, zero≤}
 use Rattle.model.specs.declared.Geometry.{Geometry}
 use Rattle.model.specs.Lists.{splice}
+use Rattle.model.specs.declared.Numbers.the-variants.{Old}
 use Rattle.model.specs.Numbers.{number}
 use Rattle.model.specs.Device.{Flash, flash}
 use Rattle.model.specs.Entry.{Recorder, recorder, Lent, lent, Outcome, noFlash, read, encoding, restoring}
@@ -56,7 +57,7 @@ beside f e D =
     record {
       unit-is = ap (λ (r : Recorder). recorder (r .words) (r .used) f) (D .unit-is) ∙ sym (ap (λ (o : Outcome). o .left .unit) e);
       buffer-is = D .buffer-is ∙ sym (ap (λ (o : Outcome). o .left .buffer) e);
-      answer-is = D .answer-is ∙ sym (ap (λ (o : Outcome). number (o .answer)) e);
+      answer-is = D .answer-is ∙ sym (ap (λ (o : Outcome). number Old (o .answer)) e);
     }
 
 module _ (G : Geometry) (bad xs : List ℕ) (k : Kept) where

@@ -6,6 +6,7 @@ use lib.IntN.{ℤ, pos, negsuc}
 use lib.ListN.{length, take, drop}
 use Rattle.model.specs.declared.Geometry.{Geometry}
 use Rattle.model.specs.Lists.{zeros, splice}
+use Rattle.model.specs.declared.Numbers.the-variants.{Old}
 use Rattle.model.specs.Numbers.{number}
 use Rattle.model.specs.Tables.{pages}
 use Rattle.model.specs.Entry.{Recorder, Outcome, pageScratch, seenScratch}
@@ -93,7 +94,7 @@ module _ (G : Geometry) (bad xs : List ℕ) where
   done k r = call.run G bad (callOf k r) (k .unit)
 
   abbrev pub answerTo : Kept → Record → ℤ
-  answerTo k r = number (done k r .answer)
+  answerTo k r = number Old (done k r .answer)
 
   -- what is kept after it, and its line
   abbrev pub keptAfter : Kept → Record → Kept

@@ -8,6 +8,8 @@ use mathlib.Core.List.{List, [], _∷_}
 use lib.IntN.{ℤ, pos, negsuc}
 use lib.ListN.{length, take, drop}
 use Rattle.model.specs.declared.Geometry.{Geometry}
+use Rattle.model.specs.declared.Numbers.{Numbers}
+use Rattle.model.specs.declared.Numbers.the-variants.{Old}
 use Rattle.model.specs.declared.Answer.{Answer}
 use Rattle.model.specs.declared.Answer.the-variants.{Moved, Refused}
 use Rattle.model.specs.declared.Cause.{Cause}
@@ -18,7 +20,7 @@ use Rattle.model.specs.Tables.{tabWords, pages, wordOf, view}
 use Rattle.model.specs.Sound.{Mapped}
 use Rattle.model.specs.Device.{Flash, flash}
 use Rattle.model.specs.Checkpoint.{fileSize}
-use Rattle.model.specs.Entry.{Recorder, recorder, Lent, lent, Outcome, outcome, Promise, noFlash}
+use Rattle.model.specs.Entry.{Recorder, recorder, Lent, lent, Outcome, outcome, Promise, PromiseIn, noFlash}
 use Rattle.model.specs.Entry.{formatting, opening, read, encoding, restoring}
 use Rattle.model.specs.History.{Call, Format, Open, Read, Write, Encode, Restore}
 use Rattle.model.specs.History.{run, contentOf, Reached, Since, lost, GivesBack}
@@ -43,63 +45,63 @@ use Rattle.demands.proofs.Kept.{unit-restores}
 
 -- `write` and the collections are lent the whole recorder: their promises are those of `run` as they stand. `format` is lent no tables, `open`,
 -- `encode` and `restore` no flash, `read` its bytes alone: over the whole recorder, what was not lent stays.
-beside : (h : Lent → Lent) {o o′ : Outcome} {x : Lent} {z : ℤ} → o′ ≡ over h o → Promise o x z → Promise o′ (h x) z
-beside h e P =
+beside : {N : Numbers} (h : Lent → Lent) {o o′ : Outcome} {x : Lent} {z : ℤ} → o′ ≡ over h o → PromiseIn N o x z → PromiseIn N o′ (h x) z
+beside {N} h e P =
     record {
       left-is = ap h (P .left-is) ∙ sym (ap (λ (o : Outcome). o .left) e);
-      answer-is = P .answer-is ∙ sym (ap (λ (o : Outcome). number (o .answer)) e);
+      answer-is = P .answer-is ∙ sym (ap (λ (o : Outcome). number N (o .answer)) e);
     }
 
 module _ (G : Geometry) (bad : List ℕ) where
-  pub format-runs : (w u : List ℕ) (f f′ : Flash) (z : ℤ)
-      → Promise (formatting G (lent (recorder [] [] f) [] [])) (lent (recorder [] [] f′) [] []) z
-      → Promise (run G bad Format (recorder w u f)) (lent (recorder w u f′) [] []) z
+  pub format-runs : {N : Numbers} (w u : List ℕ) (f f′ : Flash) (z : ℤ)
+      → PromiseIn N (formatting G (lent (recorder [] [] f) [] [])) (lent (recorder [] [] f′) [] []) z
+      → PromiseIn N (run G bad Format (recorder w u f)) (lent (recorder w u f′) [] []) z
   format-runs w u f f′ z P = beside (withTables w u) (formatting-alone G w u (lent (recorder [] [] f) [] [])) P
 
-  pub open-runs : (f : Flash) (w u w′ u′ : List ℕ) (z : ℤ)
-      → Promise (opening G (lent (recorder w u noFlash) [] [])) (lent (recorder w′ u′ noFlash) [] []) z
-      → Promise (run G bad Open (recorder w u f)) (lent (recorder w′ u′ f) [] []) z
+  pub open-runs : {N : Numbers} (f : Flash) (w u w′ u′ : List ℕ) (z : ℤ)
+      → PromiseIn N (opening G (lent (recorder w u noFlash) [] [])) (lent (recorder w′ u′ noFlash) [] []) z
+      → PromiseIn N (run G bad Open (recorder w u f)) (lent (recorder w′ u′ f) [] []) z
   open-runs f w u w′ u′ z P = beside (withFlash f) (opening-alone G f (lent (recorder w u noFlash) [] [])) P
 
-  pub read-runs : (f : Flash) (sector len : ℕ) (w u b b′ : List ℕ) (s s′ : List (List ℕ)) (z : ℤ)
-      → Promise (read G sector len (lent (recorder w u (flash (f .bytes) [] [] 0)) b s)) (lent (recorder w u (flash (f .bytes) [] [] 0)) b′ s′) z
-      → Promise (run G bad (Read sector len b s) (recorder w u f)) (lent (recorder w u f) b′ s′) z
+  pub read-runs : {N : Numbers} (f : Flash) (sector len : ℕ) (w u b b′ : List ℕ) (s s′ : List (List ℕ)) (z : ℤ)
+      → PromiseIn N (read G sector len (lent (recorder w u (flash (f .bytes) [] [] 0)) b s)) (lent (recorder w u (flash (f .bytes) [] [] 0)) b′ s′) z
+      → PromiseIn N (run G bad (Read sector len b s) (recorder w u f)) (lent (recorder w u f) b′ s′) z
   read-runs f sector len w u b b′ s s′ z P = beside (withFlash f) (read-alone G f sector len w u b s) P
 
-  pub encode-runs : (f : Flash) (w u b b′ : List ℕ) (s s′ : List (List ℕ)) (z : ℤ)
-      → Promise (encoding G (lent (recorder w u noFlash) b s)) (lent (recorder w u noFlash) b′ s′) z
-      → Promise (run G bad (Encode b s) (recorder w u f)) (lent (recorder w u f) b′ s′) z
+  pub encode-runs : {N : Numbers} (f : Flash) (w u b b′ : List ℕ) (s s′ : List (List ℕ)) (z : ℤ)
+      → PromiseIn N (encoding G (lent (recorder w u noFlash) b s)) (lent (recorder w u noFlash) b′ s′) z
+      → PromiseIn N (run G bad (Encode b s) (recorder w u f)) (lent (recorder w u f) b′ s′) z
   encode-runs f w u b b′ s s′ z P = beside (withFlash f) (encoding-alone G f (lent (recorder w u noFlash) b s)) P
 
-  pub restore-runs : (f : Flash) (b w u w′ u′ : List ℕ) (s s′ : List (List ℕ)) (z : ℤ)
-      → Promise (restoring G b (lent (recorder w u noFlash) [] s)) (lent (recorder w′ u′ noFlash) [] s′) z
-      → Promise (run G bad (Restore b s) (recorder w u f)) (lent (recorder w′ u′ f) [] s′) z
+  pub restore-runs : {N : Numbers} (f : Flash) (b w u w′ u′ : List ℕ) (s s′ : List (List ℕ)) (z : ℤ)
+      → PromiseIn N (restoring G b (lent (recorder w u noFlash) [] s)) (lent (recorder w′ u′ noFlash) [] s′) z
+      → PromiseIn N (run G bad (Restore b s) (recorder w u f)) (lent (recorder w′ u′ f) [] s′) z
   restore-runs f b w u w′ u′ s s′ z P = beside (withFlash f) (restoring-alone G f b (lent (recorder w u noFlash) [] s)) P
 
   -- ---- the first demand: each answer is one of 01's numbers, given exactly when 01 says, and a refusal leaves what 01 names
 
   -- "bytes moved, or a refusal number negated": 0 or above, or below 0
-  abbrev Signed : Answer → ℤ → Type 0
-  Signed a z = ((h : IsCount a) × (z ≡ pos (h .moved))) ⊎ ((h : IsRefusal a) × (z ≡ negsuc (h .below)))
+  abbrev Signed : Numbers → Answer → ℤ → Type 0
+  Signed N a z = ((h : IsCount a) × (z ≡ pos (h .moved))) ⊎ ((h : IsRefusal N a) × (z ≡ negsuc (h .below)))
 
-  pub sign-of : (c : Call) (r : Recorder) {x : Lent} {z : ℤ} → Promise (run G bad c r) x z → Signed (run G bad c r .answer) z
-  sign-of c r {x} {z} P = go (signs G bad c r)
+  pub sign-of : {N : Numbers} (c : Call) (r : Recorder) {x : Lent} {z : ℤ} → PromiseIn N (run G bad c r) x z → Signed N (run G bad c r .answer) z
+  sign-of {N} c r {x} {z} P = go (signs G bad N c r)
     where
-      go : IsCount (run G bad c r .answer) ⊎ IsRefusal (run G bad c r .answer) → Signed (run G bad c r .answer) z
-      go (inl h) = inl (h, P .answer-is ∙ h .number-is)
+      go : IsCount (run G bad c r .answer) ⊎ IsRefusal N (run G bad c r .answer) → Signed N (run G bad c r .answer) z
+      go (inl h) = inl (h, P .answer-is ∙ h .number-is N)
       go (inr h) = inr (h, P .answer-is ∙ h .number-is)
 
   -- "Given exactly when": where the table's second column holds for an answer, its number is given, and it holds for the answer that is given
-  pub given-when : (c : Call) (r : Recorder) {x : Lent} {z : ℤ} → Promise (run G bad c r) x z → (a : Answer) → When G bad c r a → z ≡ number a
-  given-when c r P a h = P .answer-is ∙ ap number (answers-of G bad c r a .whenever h)
+  pub given-when : {N : Numbers} (c : Call) (r : Recorder) {x : Lent} {z : ℤ} → PromiseIn N (run G bad c r) x z → (a : Answer) → When G bad c r a → z ≡ number N a
+  given-when {N} c r P a h = P .answer-is ∙ ap (number N) (answers-of G bad c r a .whenever h)
 
-  pub given-only : (c : Call) (r : Recorder) {x : Lent} {z : ℤ} → Promise (run G bad c r) x z → (a : Answer) × When G bad c r a × (z ≡ number a)
+  pub given-only : {N : Numbers} (c : Call) (r : Recorder) {x : Lent} {z : ℤ} → PromiseIn N (run G bad c r) x z → (a : Answer) × When G bad c r a × (z ≡ number N a)
   given-only c r P = (run G bad c r .answer, answers-of G bad c r (run G bad c r .answer) .only refl, P .answer-is)
 
   -- A refusal, from the number that came back: it is the number of a cause whose row of 01's table holds, in both columns; of a restore's reasons, 1 to 9
-  pub record Refusal (c : Call) (r : Recorder) (x : Lent) (below : ℕ) : Type 0 where
+  pub record Refusal (N : Numbers) (c : Call) (r : Recorder) (x : Lent) (below : ℕ) : Type 0 where
     pub cause : Cause
-    pub number-is : refusal cause ≡ suc below
+    pub number-is : refusal N cause ≡ suc below
     pub answer : run G bad c r .answer ≡ Refused cause
     pub reason-in : (k : ℕ) → cause ≡ Reason k → (1 ≤ k) × (k ≤ 9)
     pub given : When G bad c r (Refused cause)
@@ -109,10 +111,10 @@ module _ (G : Geometry) (bad : List ℕ) where
   is-below (pos m) j = ⊥
   is-below (negsuc k) j = k ≡ j
 
-  pub refusal-leaves : (c : Call) (r : Recorder) {x : Lent} (below : ℕ) → Promise (run G bad c r) x (negsuc below) → Refusal c r x below
-  refusal-leaves c r {x} below P = go (sign-of c r P)
+  pub refusal-leaves : {N : Numbers} (c : Call) (r : Recorder) {x : Lent} (below : ℕ) → PromiseIn N (run G bad c r) x (negsuc below) → Refusal N c r x below
+  refusal-leaves {N} c r {x} below P = go (sign-of c r P)
     where
-      at-cause : (h : IsRefusal (run G bad c r .answer)) → h .below ≡ below → Refusal c r x below
+      at-cause : (h : IsRefusal N (run G bad c r .answer)) → h .below ≡ below → Refusal N c r x below
       at-cause h q =
           let L : Leaves G bad c r (h .cause) (run G bad c r) = leaves G bad c r (h .cause) (h .answer) in
           record {
@@ -126,47 +128,47 @@ module _ (G : Geometry) (bad : List ℕ) where
                 (record { unchanged = L .unchanged; row = L .row; buffer = L .buffer; scratch = L .scratch });
           }
 
-      go : Signed (run G bad c r .answer) (negsuc below) → Refusal c r x below
+      go : Signed N (run G bad c r .answer) (negsuc below) → Refusal N c r x below
       go (inl h) = absurd (subst (λ z. is-below z below) (h .1) refl)
       go (inr h) = at-cause (h .0) (subst (λ z. is-below z below) (h .1) refl)
 
   -- scratch comes back on every input, whatever the answer
-  pub scratch-stays : (c : Call) (r : Recorder) {x : Lent} {z : ℤ} → Promise (run G bad c r) x z → x .scratch ≡ lentTo c r .scratch
+  pub scratch-stays : {N : Numbers} (c : Call) (r : Recorder) {x : Lent} {z : ℤ} → PromiseIn N (run G bad c r) x z → x .scratch ≡ lentTo c r .scratch
   scratch-stays c r P = ap (λ (x : Lent). x .scratch) (P .left-is) ∙ scratch-back G bad c r
 
   -- and so do the bytes of a buffer beyond what was asked for
-  pub beyond-stays : (sector len : ℕ) (o : List ℕ) (s : List (List ℕ)) (r : Recorder) {x : Lent} {z : ℤ} → Promise (run G bad (Read sector len o s) r) x z
+  pub beyond-stays : {N : Numbers} (sector len : ℕ) (o : List ℕ) (s : List (List ℕ)) (r : Recorder) {x : Lent} {z : ℤ} → PromiseIn N (run G bad (Read sector len o s) r) x z
       → drop len (x .buffer) ≡ drop len o
   beyond-stays sector len o s r P = ap (λ (x : Lent). drop len (x .buffer)) (P .left-is) ∙ read-beyond G bad sector len o s r
 
-  pub beyond-file-stays : (b : List ℕ) (s : List (List ℕ)) (r : Recorder) {x : Lent} {z : ℤ} → Promise (run G bad (Encode b s) r) x z
+  pub beyond-file-stays : {N : Numbers} (b : List ℕ) (s : List (List ℕ)) (r : Recorder) {x : Lent} {z : ℤ} → PromiseIn N (run G bad (Encode b s) r) x z
       → drop (fileSize G) (x .buffer) ≡ drop (fileSize G) b
   beyond-file-stays b s r P = ap (λ (x : Lent). drop (fileSize G) (x .buffer)) (P .left-is) ∙ encode-beyond G bad b s r
 
   -- ---- "a lemma shows two outcomes that both satisfy it are the same"
 
-  pub one-outcome-of : (c : Call) (r : Recorder) {x x′ : Lent} {z z′ : ℤ} → Promise (run G bad c r) x z → Promise (run G bad c r) x′ z′
+  pub one-outcome-of : {N : Numbers} (c : Call) (r : Recorder) {x x′ : Lent} {z z′ : ℤ} → PromiseIn N (run G bad c r) x z → PromiseIn N (run G bad c r) x′ z′
       → (x ≡ x′) × (z ≡ z′)
   one-outcome-of c r = one-outcome
 
   -- ---- the third demand, first half: a collection changes no content, whatever it answers
 
-  unit-is : {o : Outcome} {x : Lent} {z : ℤ} → Promise o x z → x .unit ≡ o .left .unit
+  unit-is : {N : Numbers} {o : Outcome} {x : Lent} {z : ℤ} → PromiseIn N o x z → x .unit ≡ o .left .unit
   unit-is P = ap (λ (x : Lent). x .unit) (P .left-is)
 
-  pub collect-keeps : (c : Call) → Collects c → (r : Recorder) {x : Lent} {z : ℤ} → Promise (run G bad c r) x z
+  pub collect-keeps : {N : Numbers} (c : Call) → Collects c → (r : Recorder) {x : Lent} {z : ℤ} → PromiseIn N (run G bad c r) x z
       → (l : ℕ) → contentOf G (x .unit) l ≡ contentOf G r l
   collect-keeps c n r P l = ap (λ (r : Recorder). contentOf G r l) (unit-is P) ∙ collected-content G bad r l c n
 
   -- and no read tells it from the recorder before it: same answer, same buffer
-  pub collect-unseen : (c : Call) → Collects c → (r : Recorder) {x : Lent} {z : ℤ} → Promise (run G bad c r) x z
+  pub collect-unseen : {N : Numbers} (c : Call) → Collects c → (r : Recorder) {x : Lent} {z : ℤ} → PromiseIn N (run G bad c r) x z
       → (sector len : ℕ) (b : List ℕ) (s : List (List ℕ)) → Shows (run G bad (Read sector len b s) (x .unit)) (run G bad (Read sector len b s) r)
   collect-unseen c n r P sector len b s =
       subst (λ y. Shows (run G bad (Read sector len b s) y) (run G bad (Read sector len b s) r)) (sym (unit-is P))
       (read-behind-collection G bad r sector len b s c n)
 
   -- a write, whatever it answers, changes no other logical page's content
-  pub write-keeps : (sector len : ℕ) (d : List ℕ) (s : List (List ℕ)) (r : Recorder) {x : Lent} {z : ℤ} → Promise (run G bad (Write sector len d s) r) x z
+  pub write-keeps : {N : Numbers} (sector len : ℕ) (d : List ℕ) (s : List (List ℕ)) (r : Recorder) {x : Lent} {z : ℤ} → PromiseIn N (run G bad (Write sector len d s) r) x z
       → (l : ℕ) → l ≢ logicalPage G sector → contentOf G (x .unit) l ≡ contentOf G r l
   write-keeps sector len d s r P l n = ap (λ (r : Recorder). contentOf G r l) (unit-is P) ∙ write-others G bad sector len d (lent r [] s) l n
 
@@ -186,10 +188,10 @@ count-of (pos m) = m
 count-of (negsuc k) = k
 
 -- an encoding that answers a count has moved as many bytes
-encode-moved : (G : Geometry) (x : Lent) (m : ℕ) → pos m ≡ number (encoding G x .answer) → encoding G x .answer ≡ Moved m
+encode-moved : (G : Geometry) (x : Lent) (m : ℕ) → pos m ≡ number Old (encoding G x .answer) → encoding G x .answer ≡ Moved m
 unfolding encoding
 encode-moved G x m =
-    guarded-by (λ (o : Outcome). pos m ≡ number (o .answer) → o .answer ≡ Moved m) _ _ _ _ x _ (λ e. absurd (subst is-count e tt))
+    guarded-by (λ (o : Outcome). pos m ≡ number Old (o .answer) → o .answer ≡ Moved m) _ _ _ _ x _ (λ e. absurd (subst is-count e tt))
     (λ e. absurd (subst is-count e tt))
     (λ _ _ _ _ e. ap (λ (z : ℤ). Moved (count-of z)) (sym e))
 
@@ -213,7 +215,7 @@ restored-back G bad H w₀ u₀ f₀ b b′ s s′ m E back r h hw hu w u t z P 
     subst (λ (z : List ℕ). GivesBack G bad r₀ (take m z) r) (sym file)
     (back r (encode-moved G (lent r₀ b s) m (e .answer-is)) (subst (λ (z : List ℕ). H (take m z) r) file h) hw hu) in
     let p = restore-runs G bad (r .flash) (take m b′) (r .words) (r .used) w u (zeros (pages G) ∷ []) t z P in
-    (p .answer-is ∙ ap number (B .answer), λ l. ap (λ (r : Recorder). contentOf G r l) (ap (λ (x : Lent). x .unit) (p .left-is)) ∙ B .contents l)
+    (p .answer-is ∙ ap (number Old) (B .answer), λ l. ap (λ (r : Recorder). contentOf G r l) (ap (λ (x : Lent). x .unit) (p .left-is)) ∙ B .contents l)
 
 -- The demand as it was made (`Since`): since the checkpoint there was no opening, no restore of another, and no erase begun in a segment holding a page
 -- mapped then. The power may have gone at any device operation, as often as it liked; between a cut and the restore, over the lost tables, no call did a

@@ -16,6 +16,7 @@ use Rattle.model.specs.declared.Cause.{Cause}
 use Rattle.model.specs.declared.Answer.the-variants.{Moved, Refused}
 use Rattle.model.specs.declared.Cause.the-variants.{Wrong, Unsound, Unmapped, NoRoom, Device, CopyNoRoom, CopyDevice, Erase, Reason}
 use Rattle.model.specs.Numbers.{Good, empty, logicalPage, offset}
+use Rattle.model.specs.Causes.{Kind, in-tests, in-read, in-write, in-copy, in-erase, in-file, kindOf}
 use Rattle.model.specs.Tables.{at, wordOf}
 use Rattle.model.specs.Sound.{Mapped}
 use Rattle.model.specs.Device.{Flash, Op, State, state, Out, out, goOn, mayErase, finish}
@@ -33,7 +34,7 @@ use Rattle.model.proofs.Guard.{guarded-passes, unless-passes}
 use Rattle.model.proofs.Refusals.{guarded-sizes, guarded-sound, guarded-page, guarded-overrun}
 use Rattle.model.proofs.Entry.{Fits}
 use Rattle.model.proofs.Collect.{Kept, collected}
-use Rattle.demands.proofs.Unchanged.{formats-all, Pass, collect-pass, more-pass, threshold-pass}
+use Rattle.demands.proofs.Unchanged.{formats-all, in-pass, Pass, collect-pass, more-pass, threshold-pass}
 use Rattle.demands.proofs.Passed.{guarded-ends, unless-ends}
 use Rattle.model.proofs.Find.{Full, Free, found}
 use Rattle.model.proofs.Turns.{write-none, write-spent, write-stored, collect-none, threshold-above, threshold-below, finish-done, finish-refused}
@@ -51,29 +52,21 @@ not-true false n = refl
 
 module _ (G : Geometry) (bad : List ℕ) where
   -- where its tests pass no call answers 22 or 117
+  abbrev InDeed : Kind → Type 0
+  InDeed in-tests = ⊥
+  InDeed in-read = Unit {0}
+  InDeed (in-write f) = Unit {0}
+  InDeed (in-copy f) = Unit {0}
+  InDeed in-erase = Unit {0}
+  InDeed (in-file r) = Unit {0}
+
   abbrev pub Plain : Answer → Type 0
   Plain (Moved m) = Unit {0}
-  Plain (Refused Wrong) = ⊥
-  Plain (Refused Unsound) = ⊥
-  Plain (Refused Unmapped) = Unit {0}
-  Plain (Refused NoRoom) = Unit {0}
-  Plain (Refused Device) = Unit {0}
-  Plain (Refused CopyNoRoom) = Unit {0}
-  Plain (Refused CopyDevice) = Unit {0}
-  Plain (Refused Erase) = Unit {0}
-  Plain (Refused (Reason r)) = Unit {0}
+  Plain (Refused c) = InDeed (kindOf c)
 
   pass-plain : (a : Answer) → Pass a → Plain a
   pass-plain (Moved m) h = tt
-  pass-plain (Refused Wrong) h = h
-  pass-plain (Refused Unsound) h = h
-  pass-plain (Refused Unmapped) h = tt
-  pass-plain (Refused NoRoom) h = tt
-  pass-plain (Refused Device) h = tt
-  pass-plain (Refused CopyNoRoom) h = tt
-  pass-plain (Refused CopyDevice) h = tt
-  pass-plain (Refused Erase) h = tt
-  pass-plain (Refused (Reason r)) h = tt
+  pass-plain (Refused c) h = in-pass InDeed (λ _. tt) tt (kindOf c) h
 
   write-plain : (l off : ℕ) (d : List ℕ) (st : State) → Plain (writePage G bad l off d st .answer)
   write-plain l off d st = write-by G bad (λ o. Plain (o .answer)) l off d st tt (λ _ _ _. tt) (λ _ _ _. tt)
@@ -364,17 +357,17 @@ module _ (G : Geometry) (bad : List ℕ) (v : ℕ) where
   one-stop (copy n q h) s (copy m p i) t = one-stop h s i t
 
 -- what a copy may answer
+abbrev InCopy : Kind → Type 0
+InCopy in-tests = ⊥
+InCopy in-read = ⊥
+InCopy (in-write f) = ⊥
+InCopy (in-copy f) = Unit {0}
+InCopy in-erase = ⊥
+InCopy (in-file r) = ⊥
+
 abbrev CopyMay : Answer → Type 0
 CopyMay (Moved m) = Unit {0}
-CopyMay (Refused CopyNoRoom) = Unit {0}
-CopyMay (Refused CopyDevice) = Unit {0}
-CopyMay (Refused Erase) = ⊥
-CopyMay (Refused Wrong) = ⊥
-CopyMay (Refused Unsound) = ⊥
-CopyMay (Refused Unmapped) = ⊥
-CopyMay (Refused NoRoom) = ⊥
-CopyMay (Refused Device) = ⊥
-CopyMay (Refused (Reason r)) = ⊥
+CopyMay (Refused c) = InCopy (kindOf c)
 
 copy-may : (G : Geometry) (bad : List ℕ) (v : ℕ) (st : State) → CopyMay (copyOne G bad v st .answer)
 copy-may G bad v st =

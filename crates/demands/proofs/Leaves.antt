@@ -16,6 +16,7 @@ use Rattle.model.specs.declared.Cause.{Cause}
 use Rattle.model.specs.declared.Answer.the-variants.{Moved, Refused}
 use Rattle.model.specs.declared.Cause.the-variants.{Wrong, Unsound, Unmapped, NoRoom, Device, CopyNoRoom, CopyDevice, Erase, Reason}
 use Rattle.model.specs.Numbers.{Good, logicalPage, offset}
+use Rattle.model.specs.Causes.{kindOf}
 use Rattle.model.specs.Device.{Op, State, state, Out, performAll, finish, behind, goOn}
 use Rattle.model.specs.PageWrite.{writePage}
 use Rattle.model.specs.PageGc.{collect, collectMore, collectList, collectThreshold}
@@ -132,7 +133,7 @@ module _ (G : Geometry) (K : Good G) (bad : List ℕ) where
 -- ---- every call
 
 -- a write's end, where its refusal is not one of "nothing changed"
-write-left : (G : Geometry) (bad : List ℕ) (k : Cause) (d : List ℕ) (st st′ : State) (ops : List Op) → (Quiet k → ⊥) → WriteEnds G bad d st st′ ops (Refused k)
+write-left : (G : Geometry) (bad : List ℕ) (k : Cause) (d : List ℕ) (st st′ : State) (ops : List Op) → (Quiet (kindOf k) → ⊥) → WriteEnds G bad d st st′ ops (Refused k)
     → WriteLeft G bad k st st′ ops
 write-left G bad Device d st st′ ops n w = w
 write-left G bad NoRoom d st st′ ops n w = n tt
@@ -149,21 +150,21 @@ module _ (G : Geometry) (bad : List ℕ) where
   abbrev Loud : Call → Cause → Lent → Outcome → Type 0
   Loud c k x o =
       o .answer ≡ Refused k
-      → ((Quiet k → ⊥) → Row G bad c k (stateIn G (x .unit)) (stateIn G (o .left .unit)) (o .ops) × TablesFit G (o .left .unit))
+      → ((Quiet (kindOf k) → ⊥) → Row G bad c k (stateIn G (x .unit)) (stateIn G (o .left .unit)) (o .ops) × TablesFit G (o .left .unit))
       × (o .left .buffer ≡ x .buffer)
       × (o .left .scratch ≡ x .scratch)
 
   abbrev QuietAnswer : Answer → Type 0
   QuietAnswer (Moved m) = ⊥
-  QuietAnswer (Refused c) = Quiet c
+  QuietAnswer (Refused c) = Quiet (kindOf c)
 
   -- a refusal of a test
-  tested : (c : Call) (k : Cause) (x : Lent) (t : Cause) → Quiet t → Loud c k x (refused t x)
+  tested : (c : Call) (k : Cause) (x : Lent) (t : Cause) → Quiet (kindOf t) → Loud c k x (refused t x)
   tested c k x t q e = (λ n. absurd (n (subst QuietAnswer e q)), refl, refl)
 
   -- an inner call put back
-  put-back : (c : Call) (k : Cause) (x : Lent) (o : Out) → Counted G (o .st .tab) → ((Quiet k → ⊥) → Row G bad c k (stateOf G x) (o .st) (o .ops))
-      → ((Quiet k → ⊥) → Row G bad c k (stateIn G (x .unit)) (stateIn G (back G x o .left .unit)) (o .ops) × TablesFit G (back G x o .left .unit))
+  put-back : (c : Call) (k : Cause) (x : Lent) (o : Out) → Counted G (o .st .tab) → ((Quiet (kindOf k) → ⊥) → Row G bad c k (stateOf G x) (o .st) (o .ops))
+      → ((Quiet (kindOf k) → ⊥) → Row G bad c k (stateIn G (x .unit)) (stateIn G (back G x o .left .unit)) (o .ops) × TablesFit G (back G x o .left .unit))
   put-back c k x o S h n =
       let P : SoundIn G (back G x o .left .unit) = packed-in G (o .st .tab) (o .st .flash) S in (
         subst (λ t. Row G bad c k (stateOf G x) (state t (o .st .flash)) (o .ops)) (sym (view-packed (S .sized))) (h n),
@@ -210,14 +211,14 @@ module _ (G : Geometry) (bad : List ℕ) where
   -- the calls that only test
   abbrev Silent : Answer → Type 0
   Silent (Moved m) = Unit {0}
-  Silent (Refused c) = Quiet c
+  Silent (Refused c) = Quiet (kindOf c)
 
   abbrev SilentOut : Outcome → Type 0
   SilentOut y = Silent (y .answer)
 
   silent-leaves : (c : Call) (r : Recorder) (k : Cause) → Silent (run G bad c r .answer) → run G bad c r .answer ≡ Refused k → Leaves G bad c r k (run G bad c r)
   silent-leaves c r k s e =
-      let q : Quiet k = subst Silent e s in
+      let q : Quiet (kindOf k) = subst Silent e s in
       let u : run G bad c r .left ≡ lentTo c r = stays G bad k q c r e .0 in
       record {
         unchanged = λ _. stays G bad k q c r e;
@@ -231,7 +232,7 @@ module _ (G : Geometry) (bad : List ℕ) where
   loud-leaves c r k x l h u e =
       record {
         unchanged = λ q. stays G bad k q c r e;
-        row = subst (λ z. (Quiet k → ⊥) → Row G bad c k (stateIn G z) (stateIn G (run G bad c r .left .unit)) (run G bad c r .ops) × TablesFit G (run G bad c r .left .unit)) u (h e .0);
+        row = subst (λ z. (Quiet (kindOf k) → ⊥) → Row G bad c k (stateIn G z) (stateIn G (run G bad c r .left .unit)) (run G bad c r .ops) × TablesFit G (run G bad c r .left .unit)) u (h e .0);
         buffer = h e .1 ∙ ap (λ (x : Lent). x .buffer) (sym l);
         scratch = h e .2 ∙ ap (λ (x : Lent). x .scratch) (sym l);
       }

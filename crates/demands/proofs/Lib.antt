@@ -22,6 +22,8 @@ pub mod Draining
 pub mod Steps
 -- 02, M-102: no programming refused for its order
 pub mod Served
+-- 02, M-101: the new numbers beside the old
+pub mod Told
 -- the sort of the queue and the walk over the segments
 pub mod Order
 -- premises that can be met

@@ -8,21 +8,25 @@ use mathlib.Core.List.{List, [], _∷_}
 use lib.IntN.{ℤ, pos, negsuc}
 use lib.ListN.{length, take}
 use Rattle.model.specs.declared.Geometry.{Geometry}
+use Rattle.model.specs.declared.Numbers.{Numbers}
+use Rattle.model.specs.declared.Numbers.the-variants.{Old}
 use Rattle.model.specs.declared.Answer.{Answer}
 use Rattle.model.specs.declared.Answer.the-variants.{Refused}
 use Rattle.model.specs.declared.Cause.{Cause}
 use Rattle.model.specs.declared.Cause.the-variants.{Device}
 use Rattle.model.specs.Lists.{zeros}
 use Rattle.model.specs.Numbers.{Good, endless, number}
+use Rattle.model.specs.Causes.{kindOf}
 use Rattle.model.specs.Tables.{tabWords, pages}
 use Rattle.model.specs.Device.{Flash, flash, Op, Program, EraseSeg, Out, burn, performAll}
-use Rattle.model.specs.Entry.{Recorder, recorder, Lent, lent, Outcome, Promise, stateOf, write}
+use Rattle.model.specs.Entry.{Recorder, recorder, Lent, lent, Outcome, Promise, PromiseIn, stateOf, write}
 use Rattle.model.specs.History.{Call, Format, Open, Write, lit, run, after, opsOf, InService, delivered, lent-fuse, AtProgramming, OnlyFuse}
 use Rattle.model.proofs.Guard.{guarded-by}
 use Rattle.model.proofs.Entry.{endless-law}
 use Rattle.model.proofs.Order.{never-for-order}
 use Rattle.demands.proofs.Fresh.{started}
 use Rattle.demands.proofs.Walk.{write-by}
+use Rattle.demands.proofs.Signs.{unlike, unlike-count}
 
 -- flash of any content, formatted with fuse enough, and zeroed tables, opened: in service
 pub serves : (G : Geometry) → Good G → (bad b m c : List ℕ) (f : ℕ) → length b ≡ pages G * G .s → length m ≡ pages G → length c ≡ G .n → G .n ≤ f
@@ -36,25 +40,14 @@ still-endless G [] f e = e
 still-endless G (Program g k page ∷ os) f e = still-endless G os _ (ap burn e)
 still-endless G (EraseSeg g c ∷ os) f e = still-endless G os _ (ap burn e)
 
--- a number is not -5
-not-five : {A : Type 0} (k : ℕ) → k ≢ 4 → negsuc 4 ≡ negsuc k → A
-not-five k n e = absurd (n (ap below (sym e)))
-  where
-    below : ℤ → ℕ
-    below (pos m) = m
-    below (negsuc m) = m
-
-abbrev is-refusal : ℤ → Type 0
-is-refusal (pos m) = ⊥
-is-refusal (negsuc k) = Unit {0}
-
 module _ (G : Geometry) (bad : List ℕ) where
   -- every call: where a programming is refused, the fuse is out
-  pub fuse-alone : {r : Recorder} → InService G r → (c : Call) {x : Lent} {z : ℤ} → Promise (run G bad c r) x z → OnlyFuse (run G bad c r .answer) (x .unit .flash)
+  pub fuse-alone : {r : Recorder} → InService G r → (c : Call) {N : Numbers} {x : Lent} {z : ℤ} → PromiseIn N (run G bad c r) x z → OnlyFuse (run G bad c r .answer) (x .unit .flash)
   fuse-alone {r} h c P = subst (λ (x : Lent). OnlyFuse (run G bad c r .answer) (x .unit .flash)) (sym (P .left-is)) (never-for-order G h bad c)
 
-  -- so with a fuse that never ends no programming is refused at all. Of the definition's answer: a collection's -14 does not tell its cause
-  pub never-refused : {r : Recorder} → InService G r → (c : Call) (k : Cause) → run G bad c (lit endless r) .answer ≡ Refused k → AtProgramming k → ⊥
+  -- so with a fuse that never ends no programming is refused at all. Of the definition's answer: a collection's -14 does not tell its cause (-121 does:
+  -- `never-121`, Told)
+  pub never-refused : {r : Recorder} → InService G r → (c : Call) (k : Cause) → run G bad c (lit endless r) .answer ≡ Refused k → AtProgramming (kindOf k) → ⊥
   never-refused {r} h c k a p =
       let e : after G bad c (lit endless r) .flash .fuse ≡ 0 =
       subst (λ y. OnlyFuse y (after G bad c (lit endless r) .flash)) a (never-for-order G (lent-fuse h endless) bad c) p in
@@ -64,14 +57,14 @@ module _ (G : Geometry) (bad : List ℕ) where
 
   -- a write's -5 is the device's refusal to program
   abbrev Five : Answer → Type 0
-  Five a = negsuc 4 ≡ number a → a ≡ Refused Device
+  Five a = negsuc 4 ≡ number Old a → a ≡ Refused Device
 
   five : (sector len : ℕ) (d : List ℕ) (x : Lent) → Five (write G bad sector len d x .answer)
   unfolding write
   five sector len d x =
-      guarded-by (λ (o : Outcome). Five (o .answer)) _ _ _ _ x _ (not-five 21 (omega arith)) (not-five 116 (omega arith))
+      guarded-by (λ (o : Outcome). Five (o .answer)) _ _ _ _ x _ (unlike 4 21 (omega arith)) (unlike 4 116 (omega arith))
       (λ _ _ _ _.
-      write-by G bad (λ (o : Out). Five (o .answer)) _ _ (take len d) (stateOf G x) (not-five 13 (omega arith)) (λ _ _ _ e. absurd (subst is-refusal e tt))
+      write-by G bad (λ (o : Out). Five (o .answer)) _ _ (take len d) (stateOf G x) (unlike 4 13 (omega arith)) (λ _ _ _ e. unlike-count (length (take len d)) 4 (sym e))
       (λ _ _ _ _. refl))
 
   module _ {r : Recorder} (h : InService G r) (sector len : ℕ) (d : List ℕ) (s : List (List ℕ)) {x : Lent} where

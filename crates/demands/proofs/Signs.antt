@@ -1,18 +1,22 @@
 -- "Each call answers one signed number: bytes moved, or a refusal number negated.": its exact sign cases, for every call on every input.
 use Prim.Native.Nat.{ℕ, zero, suc, _+_, _≤_, _<_}
 use native.Mathlib.Omega.{arith}
-use mathlib.Core.Path.{_≡_, refl, sym, subst}
+use mathlib.Core.Path.{_≡_, refl, sym, ap, subst}
 use mathlib.Core.Bool.{Bool, true, false}
 use mathlib.Core.Logic.{_⊎_, inl, inr, _≢_}
 use mathlib.Core.List.{List, [], _∷_}
 use lib.Dec.{eqb}
+use lib.IntN.{ℤ, pos, negsuc}
 use lib.ListN.{length, take}
 use borrow.Author.Tests.{eqb-false}
 use Rattle.model.specs.Lists.{firstNot}
 use Rattle.model.specs.declared.Geometry.{Geometry}
+use Rattle.model.specs.declared.Numbers.{Numbers}
+use Rattle.model.specs.declared.Numbers.the-variants.{Old, New}
 use Rattle.model.specs.declared.Answer.{Answer}
 use Rattle.model.specs.declared.Answer.the-variants.{Moved, Refused}
 use Rattle.model.specs.declared.Cause.the-variants.{Wrong, Unsound, Unmapped, NoRoom, Device, CopyNoRoom, CopyDevice, Erase, Reason}
+use Rattle.model.specs.Causes.{kindOf, OfReason}
 use Rattle.model.specs.Device.{State, Out}
 use Rattle.model.specs.PageWrite.{writePage}
 use Rattle.model.specs.PageGc.{collectList}
@@ -21,34 +25,21 @@ use Rattle.model.specs.Entry.{Recorder, Lent, lent, Outcome, unless, stateOf, c
 use Rattle.model.specs.Entry.{formatting, opening, read, write, collection, listCollection, thresholdCollection, encoding, restoring}
 use Rattle.model.specs.History.{Call, Format, Open, Read, Write, Collect, CollectList, CollectThreshold, Encode, Restore, run}
 use Rattle.model.proofs.Guard.{unless-by, guarded-by}
-use Rattle.demands.proofs.Unchanged.{Pass, collect-pass, more-pass, threshold-pass, formats-all}
+use Rattle.demands.proofs.Unchanged.{in-pass, Pass, collect-pass, more-pass, threshold-pass, formats-all}
 use Rattle.demands.specs.When.{IsCount, IsRefusal}
 use Rattle.demands.proofs.Walk.{write-by}
 
 -- "and the reason is the answer": 1 to 9
+abbrev FairReason : ℕ → Type 0
+FairReason k = (1 ≤ k) × (k ≤ 9)
+
 abbrev pub Fair : Answer → Type 0
-Fair (Refused (Reason k)) = (1 ≤ k) × (k ≤ 9)
 Fair (Moved m) = Unit {0}
-Fair (Refused Wrong) = Unit {0}
-Fair (Refused Unsound) = Unit {0}
-Fair (Refused Unmapped) = Unit {0}
-Fair (Refused NoRoom) = Unit {0}
-Fair (Refused Device) = Unit {0}
-Fair (Refused CopyNoRoom) = Unit {0}
-Fair (Refused CopyDevice) = Unit {0}
-Fair (Refused Erase) = Unit {0}
+Fair (Refused c) = OfReason FairReason (kindOf c)
 
 pass-fair : (a : Answer) → Pass a → Fair a
 pass-fair (Moved m) h = tt
-pass-fair (Refused Wrong) h = tt
-pass-fair (Refused Unsound) h = tt
-pass-fair (Refused Unmapped) h = tt
-pass-fair (Refused NoRoom) h = tt
-pass-fair (Refused Device) h = tt
-pass-fair (Refused CopyNoRoom) h = tt
-pass-fair (Refused CopyDevice) h = tt
-pass-fair (Refused Erase) h = tt
-pass-fair (Refused (Reason k)) h = absurd h
+pass-fair (Refused c) h = in-pass (OfReason FairReason) (λ _. tt) tt (kindOf c) h
 
 -- the first test that fails is one of them
 first-in : (k : ℕ) (bs : List Bool) → (firstNot k bs ≡ 0) ⊎ ((k ≤ firstNot k bs) × (firstNot k bs < k + length bs))
@@ -69,6 +60,22 @@ reason-in G b n = go (first-in 1 (fileTests G b))
         → (1 ≤ firstNot 1 (fileTests G b)) × (firstNot 1 (fileTests G b) ≤ 9)
     go (inl e) = absurd (n e)
     go (inr h) = (h .0, omega (arith, h .1))
+
+-- two refusal numbers
+pub unlike : {A : Type 0} (k j : ℕ) → k ≢ j → negsuc k ≡ negsuc j → A
+unlike k j n e = absurd (n (ap below e))
+  where
+    below : ℤ → ℕ
+    below (pos m) = m
+    below (negsuc m) = m
+
+-- a count is no refusal number
+pub unlike-count : {A : Type 0} (m j : ℕ) → pos m ≡ negsuc j → A
+unlike-count m j e = absurd (subst counts e tt)
+  where
+    counts : ℤ → Type 0
+    counts (pos m) = Unit {0}
+    counts (negsuc k) = ⊥
 
 module _ (G : Geometry) (bad : List ℕ) where
   abbrev FairOut : Outcome → Type 0
@@ -99,24 +106,27 @@ module _ (G : Geometry) (bad : List ℕ) where
   fair (Encode b s) r = guarded-by FairOut _ _ _ _ (lent r b s) _ tt tt (λ _ _ _ _. tt)
   fair (Restore b s) r = guarded-by FairOut _ _ _ _ (lent r [] s) _ tt tt (λ _ _ _ _. restored-fair b _ refl (lent r [] s) _ tt)
 
-  pub signs : (c : Call) (r : Recorder) → IsCount (run G bad c r .answer) ⊎ IsRefusal (run G bad c r .answer)
-  signs c r = go (run G bad c r .answer) (fair c r)
+  pub signs : (N : Numbers) (c : Call) (r : Recorder) → IsCount (run G bad c r .answer) ⊎ IsRefusal N (run G bad c r .answer)
+  signs N c r = go N (run G bad c r .answer) (fair c r)
     where
-      past : (k : ℕ) → 1 ≤ k → IsRefusal (Refused (Reason k))
-      past zero h = absurd (omega arith)
-      past (suc k) h = record { cause = Reason (suc k); below = k; answer = refl; refusal-is = refl; number-is = refl }
+      past : (N : Numbers) (k : ℕ) → 1 ≤ k → IsRefusal N (Refused (Reason k))
+      past N zero h = absurd (omega arith)
+      past N (suc k) h = record { cause = Reason (suc k); below = k; answer = refl; refusal-is = refl; number-is = refl }
 
-      go : (a : Answer) → Fair a → IsCount a ⊎ IsRefusal a
-      go (Moved m) h = inl (record { moved = m; answer = refl; number-is = refl })
-      go (Refused Wrong) h = inr (record { cause = Wrong; below = 21; answer = refl; refusal-is = refl; number-is = refl })
-      go (Refused Unsound) h = inr (record { cause = Unsound; below = 116; answer = refl; refusal-is = refl; number-is = refl })
-      go (Refused Unmapped) h = inr (record { cause = Unmapped; below = 60; answer = refl; refusal-is = refl; number-is = refl })
-      go (Refused NoRoom) h = inr (record { cause = NoRoom; below = 13; answer = refl; refusal-is = refl; number-is = refl })
-      go (Refused Device) h = inr (record { cause = Device; below = 4; answer = refl; refusal-is = refl; number-is = refl })
-      go (Refused CopyNoRoom) h = inr (record { cause = CopyNoRoom; below = 13; answer = refl; refusal-is = refl; number-is = refl })
-      go (Refused CopyDevice) h = inr (record { cause = CopyDevice; below = 13; answer = refl; refusal-is = refl; number-is = refl })
-      go (Refused Erase) h = inr (record { cause = Erase; below = 4; answer = refl; refusal-is = refl; number-is = refl })
-      go (Refused (Reason k)) h = inr (past k (h .0))
+      go : (N : Numbers) (a : Answer) → Fair a → IsCount a ⊎ IsRefusal N a
+      go N (Moved m) h = inl (record { moved = m; answer = refl; number-is = λ _. refl })
+      go N (Refused Wrong) h = inr (record { cause = Wrong; below = 21; answer = refl; refusal-is = refl; number-is = refl })
+      go N (Refused Unsound) h = inr (record { cause = Unsound; below = 116; answer = refl; refusal-is = refl; number-is = refl })
+      go N (Refused Unmapped) h = inr (record { cause = Unmapped; below = 60; answer = refl; refusal-is = refl; number-is = refl })
+      go Old (Refused NoRoom) h = inr (record { cause = NoRoom; below = 13; answer = refl; refusal-is = refl; number-is = refl })
+      go New (Refused NoRoom) h = inr (record { cause = NoRoom; below = 27; answer = refl; refusal-is = refl; number-is = refl })
+      go N (Refused Device) h = inr (record { cause = Device; below = 4; answer = refl; refusal-is = refl; number-is = refl })
+      go Old (Refused CopyNoRoom) h = inr (record { cause = CopyNoRoom; below = 13; answer = refl; refusal-is = refl; number-is = refl })
+      go New (Refused CopyNoRoom) h = inr (record { cause = CopyNoRoom; below = 27; answer = refl; refusal-is = refl; number-is = refl })
+      go Old (Refused CopyDevice) h = inr (record { cause = CopyDevice; below = 13; answer = refl; refusal-is = refl; number-is = refl })
+      go New (Refused CopyDevice) h = inr (record { cause = CopyDevice; below = 120; answer = refl; refusal-is = refl; number-is = refl })
+      go N (Refused Erase) h = inr (record { cause = Erase; below = 4; answer = refl; refusal-is = refl; number-is = refl })
+      go N (Refused (Reason k)) h = inr (past N k (h .0))
 
   -- a reason from 1 to 9
   pub reasons : (c : Call) (r : Recorder) (k : ℕ) → run G bad c r .answer ≡ Refused (Reason k) → (1 ≤ k) × (k ≤ 9)

@@ -13,6 +13,7 @@ use Rattle.model.specs.declared.Cause.{Cause}
 use Rattle.model.specs.declared.Answer.the-variants.{Moved, Refused}
 use Rattle.model.specs.declared.Cause.the-variants.{Wrong, Unsound, Unmapped, NoRoom, Device, CopyNoRoom, CopyDevice, Erase, Reason}
 use Rattle.model.specs.Numbers.{good?, logicalPage, offset}
+use Rattle.model.specs.Causes.{Failing, Kind, in-tests, in-read, in-write, in-copy, in-erase, in-file, kindOf}
 use Rattle.model.specs.Tables.{view, tabWords}
 use Rattle.model.specs.Device.{EraseSeg, State, state, Out, finish, behind, goOn, blanked, formatFrom}
 use Rattle.model.specs.PageWrite.{whole, writePage}
@@ -28,28 +29,25 @@ use Rattle.demands.specs.Left.{Quiet}
 use Rattle.demands.proofs.Walk.{write-by, finish-by, collect-by, more-by, threshold-by}
 
 -- what a collection's passes may answer
+abbrev pub InPass : Kind → Type 0
+InPass in-tests = ⊥
+InPass in-read = ⊥
+InPass (in-write f) = ⊥
+InPass (in-copy f) = Unit {0}
+InPass in-erase = Unit {0}
+InPass (in-file r) = ⊥
+
 abbrev pub Pass : Answer → Type 0
 Pass (Moved m) = Unit {0}
-Pass (Refused Wrong) = ⊥
-Pass (Refused Unsound) = ⊥
-Pass (Refused Unmapped) = ⊥
-Pass (Refused NoRoom) = ⊥
-Pass (Refused Device) = ⊥
-Pass (Refused CopyNoRoom) = Unit {0}
-Pass (Refused CopyDevice) = Unit {0}
-Pass (Refused Erase) = Unit {0}
-Pass (Refused (Reason r)) = ⊥
+Pass (Refused c) = InPass (kindOf c)
 
-loud : (c : Cause) → Quiet c → Pass (Refused c) → ⊥
-loud Wrong q p = p
-loud Unsound q p = p
-loud Unmapped q p = p
-loud NoRoom q p = p
-loud Device q p = q
-loud CopyNoRoom q p = q
-loud CopyDevice q p = q
-loud Erase q p = q
-loud (Reason r) q p = p
+pub in-pass : (P : Kind → Type 0) → ((f : Failing) → P (in-copy f)) → P in-erase → (k : Kind) → InPass k → P k
+in-pass P copy erase in-tests h = absurd h
+in-pass P copy erase in-read h = absurd h
+in-pass P copy erase (in-write f) h = absurd h
+in-pass P copy erase (in-copy f) h = copy f
+in-pass P copy erase in-erase h = erase
+in-pass P copy erase (in-file r) h = absurd h
 
 pass-then : (a : Answer) (o : Out) (f : State → Out) → Pass (o .answer) → Pass (f (o .st) .answer) → Pass (goOn a o f .answer)
 pass-then (Moved m) o f h r = r
@@ -89,19 +87,19 @@ module _ (G : Geometry) (bad : List ℕ) where
       go true ih = refl
       go false ih = ih
 
-  module _ (k : Cause) (q : Quiet k) where
+  module _ (k : Cause) (q : Quiet (kindOf k)) where
     abbrev Stays : Lent → Outcome → Type 0
     Stays x o = o .answer ≡ Refused k → (o .left ≡ x) × (o .ops ≡ [])
 
     none : {A : Type 0} (a : Answer) → Pass a → a ≡ Refused k → A
-    none a h e = absurd (loud k q (subst Pass e h))
+    none a h e = absurd (in-pass (λ k. Quiet k → ⊥) (λ _ z. z) (λ z. z) (kindOf k) (subst Pass e h) q)
 
     collecting-stays : (x : Lent) (o : Out) → Pass (o .answer) → Stays x (collecting G bad x o)
     collecting-stays x o h = guarded-by (Stays x) _ _ _ _ x _ (λ _. (refl, refl)) (λ _. (refl, refl)) (λ _ _ _ _ e. none (o .answer) h e)
 
     abbrev Loudly : Answer → Type 0
     Loudly (Moved m) = Unit {0}
-    Loudly (Refused c) = Quiet c → ⊥
+    Loudly (Refused c) = Quiet (kindOf c) → ⊥
 
     inner-stays : (x : Lent) → length (x .unit .words) ≡ tabWords G → (l off : ℕ) (c : List ℕ)
         → Stays x (back G x (writePage G bad l off c (stateOf G x)))

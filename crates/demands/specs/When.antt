@@ -6,6 +6,7 @@ use mathlib.Core.Logic.{_⊎_, _≢_}
 use mathlib.Core.List.{List, [], _++_}
 use lib.IntN.{pos, negsuc}
 use Rattle.model.specs.declared.Geometry.{Geometry}
+use Rattle.model.specs.declared.Numbers.{Numbers}
 use Rattle.model.specs.declared.Answer.{Answer}
 use Rattle.model.specs.declared.Answer.the-variants.{Moved, Refused}
 use Rattle.model.specs.declared.Cause.{Cause}
@@ -159,12 +160,12 @@ When G bad c r (Refused (Reason k)) = Passed G bad c r × DeedWhen G bad c r (Re
 pub record IsCount (a : Answer) : Type 0 where
   pub moved : ℕ
   pub answer : a ≡ Moved moved
-  pub number-is : number a ≡ pos moved
+  pub number-is : (N : Numbers) → number N a ≡ pos moved
 
 -- or below 0 (`negsuc below` is -(below + 1))
-pub record IsRefusal (a : Answer) : Type 0 where
+pub record IsRefusal (N : Numbers) (a : Answer) : Type 0 where
   pub cause : Cause
   pub below : ℕ
   pub answer : a ≡ Refused cause
-  pub refusal-is : refusal cause ≡ suc below
-  pub number-is : number a ≡ negsuc below
+  pub refusal-is : refusal N cause ≡ suc below
+  pub number-is : number N a ≡ negsuc below

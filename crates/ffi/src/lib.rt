@@ -2,12 +2,14 @@
 ghost use mathlib.Core.Path.{_≡_};
 ghost use mathlib.Core.List.{[], _∷_};
 ghost use Rattle.crc32.specs.Crc32.{crc32};
+ghost use Rattle.model.specs.declared.Numbers.the-variants.{New};
 ghost use Rattle.model.specs.Numbers.{Good, geometry};
 ghost use Rattle.model.specs.Device.{flash};
-ghost use Rattle.model.specs.Entry.{recorder, lent, noFlash, Promise};
+ghost use Rattle.model.specs.Entry.{recorder, lent, noFlash, Promise, PromiseIn};
 ghost use Rattle.model.specs.Entry.{formatting, opening, read, write, collection, listCollection, thresholdCollection, encoding, restoring};
 ghost use Rattle.ffi.specs.Sizes.{Size, sizeOf, sized};
 use model::Geometry;
+use model::Numbers;
 
 // Every segment erased, counts 0.
 #[no_mangle]
@@ -137,6 +139,7 @@ pub extern "C" fn shr_write(
     };
     ftl::write(
         geo,
+        Numbers::Old,
         sector,
         len,
         xs,
@@ -187,6 +190,7 @@ pub extern "C" fn shr_collect(
     };
     ftl::collect(
         geo,
+        Numbers::Old,
         bad,
         tab,
         used,
@@ -236,6 +240,7 @@ pub extern "C" fn shr_collect_list(
     };
     ftl::collect_list(
         geo,
+        Numbers::Old,
         m,
         bad,
         tab,
@@ -287,6 +292,210 @@ pub extern "C" fn shr_collect_threshold(
     };
     ftl::collect_threshold(
         geo,
+        Numbers::Old,
+        threshold,
+        m,
+        bad,
+        tab,
+        used,
+        bytes,
+        marks,
+        counts,
+        fuse,
+        page,
+        seen,
+        order,
+    )
+}
+
+// The same four in the numbers of 02, M-101: 28 where no segment outside the bad list has room, 121 where the device refuses a copy.
+#[no_mangle]
+pub extern "C" fn shr_write_told(
+    n: usize,
+    p: usize,
+    s: usize,
+    w: usize,
+    e: usize,
+    limit: usize,
+    sector: usize,
+    len: usize,
+    xs: &[u8],
+    bad: &[u8],
+    tab: &mut [u32],
+    used: &mut [u8],
+    bytes: &mut [u8],
+    marks: &mut [u8],
+    counts: &[u32],
+    fuse: &mut u64,
+    page: &mut [u8],
+    seen: &mut [u8],
+) -> i64
+    ensures { λ r. ⌜ PromiseIn New
+        (write (geometry n p s w e limit) (now (bad .entry)) sector len (now (xs .entry))
+        (lent (recorder (now (tab .entry)) (now (used .entry)) (flash (now (bytes .entry)) (now (marks .entry)) (now (counts .entry)) (now (fuse .entry)))) [] (now (page .entry) ∷ now (seen .entry) ∷ [])))
+        (lent (recorder (now (tab .exit)) (now (used .exit)) (flash (now (bytes .exit)) (now (marks .exit)) (now (counts .entry)) (now (fuse .exit)))) [] (now (page .exit) ∷ now (seen .exit) ∷ [])) r ⌝ }
+{
+    let geo = Geometry {
+        n,
+        p,
+        s,
+        w,
+        e,
+        limit,
+    };
+    ftl::write(
+        geo,
+        Numbers::New, // no room is 28
+        sector,
+        len,
+        xs,
+        bad,
+        tab,
+        used,
+        bytes,
+        marks,
+        counts,
+        fuse,
+        page,
+        seen,
+    )
+}
+
+#[no_mangle]
+pub extern "C" fn shr_collect_told(
+    n: usize,
+    p: usize,
+    s: usize,
+    w: usize,
+    e: usize,
+    limit: usize,
+    bad: &[u8],
+    tab: &mut [u32],
+    used: &mut [u8],
+    bytes: &mut [u8],
+    marks: &mut [u8],
+    counts: &mut [u32],
+    fuse: &mut u64,
+    page: &mut [u8],
+    seen: &mut [u8],
+    order: &mut [u32],
+) -> i64
+    ensures { λ r. ⌜ PromiseIn New
+        (collection (geometry n p s w e limit) (now (bad .entry))
+        (lent (recorder (now (tab .entry)) (now (used .entry)) (flash (now (bytes .entry)) (now (marks .entry)) (now (counts .entry)) (now (fuse .entry)))) [] (now (page .entry) ∷ now (seen .entry) ∷ now (order .entry) ∷ [])))
+        (lent (recorder (now (tab .exit)) (now (used .exit)) (flash (now (bytes .exit)) (now (marks .exit)) (now (counts .exit)) (now (fuse .exit)))) [] (now (page .exit) ∷ now (seen .exit) ∷ now (order .exit) ∷ [])) r ⌝ }
+{
+    let geo = Geometry {
+        n,
+        p,
+        s,
+        w,
+        e,
+        limit,
+    };
+    ftl::collect(
+        geo,
+        Numbers::New,
+        bad,
+        tab,
+        used,
+        bytes,
+        marks,
+        counts,
+        fuse,
+        page,
+        seen,
+        order,
+    )
+}
+
+#[no_mangle]
+pub extern "C" fn shr_collect_list_told(
+    n: usize,
+    p: usize,
+    s: usize,
+    w: usize,
+    e: usize,
+    limit: usize,
+    m: usize,
+    bad: &[u8],
+    tab: &mut [u32],
+    used: &mut [u8],
+    bytes: &mut [u8],
+    marks: &mut [u8],
+    counts: &mut [u32],
+    fuse: &mut u64,
+    page: &mut [u8],
+    seen: &mut [u8],
+    order: &mut [u32],
+) -> i64
+    ensures { λ r. ⌜ PromiseIn New
+        (listCollection (geometry n p s w e limit) (now (bad .entry)) m
+        (lent (recorder (now (tab .entry)) (now (used .entry)) (flash (now (bytes .entry)) (now (marks .entry)) (now (counts .entry)) (now (fuse .entry)))) [] (now (page .entry) ∷ now (seen .entry) ∷ now (order .entry) ∷ [])))
+        (lent (recorder (now (tab .exit)) (now (used .exit)) (flash (now (bytes .exit)) (now (marks .exit)) (now (counts .exit)) (now (fuse .exit)))) [] (now (page .exit) ∷ now (seen .exit) ∷ now (order .exit) ∷ [])) r ⌝ }
+{
+    let geo = Geometry {
+        n,
+        p,
+        s,
+        w,
+        e,
+        limit,
+    };
+    ftl::collect_list(
+        geo,
+        Numbers::New,
+        m,
+        bad,
+        tab,
+        used,
+        bytes,
+        marks,
+        counts,
+        fuse,
+        page,
+        seen,
+        order,
+    )
+}
+
+#[no_mangle]
+pub extern "C" fn shr_collect_threshold_told(
+    n: usize,
+    p: usize,
+    s: usize,
+    w: usize,
+    e: usize,
+    limit: usize,
+    threshold: u64,
+    m: usize,
+    bad: &[u8],
+    tab: &mut [u32],
+    used: &mut [u8],
+    bytes: &mut [u8],
+    marks: &mut [u8],
+    counts: &mut [u32],
+    fuse: &mut u64,
+    page: &mut [u8],
+    seen: &mut [u8],
+    order: &mut [u32],
+) -> i64
+    ensures { λ r. ⌜ PromiseIn New
+        (thresholdCollection (geometry n p s w e limit) (now (bad .entry)) threshold m
+        (lent (recorder (now (tab .entry)) (now (used .entry)) (flash (now (bytes .entry)) (now (marks .entry)) (now (counts .entry)) (now (fuse .entry)))) [] (now (page .entry) ∷ now (seen .entry) ∷ now (order .entry) ∷ [])))
+        (lent (recorder (now (tab .exit)) (now (used .exit)) (flash (now (bytes .exit)) (now (marks .exit)) (now (counts .exit)) (now (fuse .exit)))) [] (now (page .exit) ∷ now (seen .exit) ∷ now (order .exit) ∷ [])) r ⌝ }
+{
+    let geo = Geometry {
+        n,
+        p,
+        s,
+        w,
+        e,
+        limit,
+    };
+    ftl::collect_threshold(
+        geo,
+        Numbers::New,
         threshold,
         m,
         bad,

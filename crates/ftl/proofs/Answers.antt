@@ -15,6 +15,7 @@ use mir.ValLaws.{toZ-ofZ}
 use borrow.Author.Tests.{eqb-true, eqb-false, ne-eqb}
 use Rattle.model.specs.Lists.{splice, total}
 use Rattle.model.specs.declared.Geometry.{Geometry}
+use Rattle.model.specs.declared.Numbers.{Numbers}
 use Rattle.model.specs.declared.Answer.{Answer}
 use Rattle.model.specs.declared.Answer.the-variants.{Moved, Refused}
 use Rattle.model.specs.declared.Cause.{Cause}
@@ -22,13 +23,16 @@ use Rattle.model.specs.declared.Cause.the-variants.{Wrong, Unsound, Unmapped, N
 use Rattle.model.specs.declared.Found.{Found}
 use Rattle.model.specs.declared.Found.the-variants.{At, Nothing}
 use Rattle.model.specs.Numbers.{Good, empty, segOf, refusal, number}
+use Rattle.model.specs.Causes.{Kind, in-tests, in-read, in-write, in-copy, in-erase, in-file, kindOf, OfReason}
 use Rattle.model.specs.Tables.{Tables, at, wordOf}
 use Rattle.model.specs.Device.{State, state, Out, finish, refuse, goOn, mayProgram, mayErase}
 use Rattle.model.specs.PageMap.{find, spend, unlink, enqueue, invalidate, forget}
 use Rattle.model.specs.PageWrite.{whole, oldPage, stored, spent, writeAt, writePage}
-use Rattle.model.specs.PageGc.{victim, taken, ofCopy, copyAnswer, cleared, finishOf, lastOf, copyOne}
+use Rattle.model.specs.PageGc.{victim, taken, copyAnswer, cleared, finishOf, lastOf, copyOne}
 use Rattle.model.specs.PageGc.{drain, collectOf, collect, collectMore, collectList, collectThreshold}
 use Rattle.model.specs.Contract.{Fit}
+use Rattle.model.proofs.Causes.{as-copy}
+use Rattle.model.proofs.Told.{told-small}
 use Rattle.model.proofs.Working.{Counted}
 use Rattle.model.proofs.Taken.{taken-sound, victim-flag, victim-full, victim-seg}
 use Rattle.model.proofs.Write.{Wrote, Busy}
@@ -36,56 +40,50 @@ use Rattle.model.proofs.Collect.{W, last-in, Kept, collected}
 use Rattle.guard.specs.Countable.{Known, Countable}
 use Rattle.guard.proofs.Signed.{small}
 
--- the causes of a call's own deed, behind its tests
-abbrev pub Deed : Cause → Type 0
-Deed Wrong = ⊥
-Deed Unsound = ⊥
-Deed Unmapped = ⊥
-Deed NoRoom = Unit {0}
-Deed Device = Unit {0}
-Deed CopyNoRoom = Unit {0}
-Deed CopyDevice = Unit {0}
-Deed Erase = Unit {0}
-Deed (Reason r) = ⊥
+-- the causes of a write's or a collection's own deed, behind its tests
+abbrev pub Deed : Kind → Type 0
+Deed in-tests = ⊥
+Deed in-read = ⊥
+Deed (in-write f) = Unit {0}
+Deed (in-copy f) = Unit {0}
+Deed in-erase = Unit {0}
+Deed (in-file r) = ⊥
 
-deed-known : (c : Cause) → Deed c → Known c
-deed-known Wrong h = tt
-deed-known Unsound h = tt
-deed-known Unmapped h = tt
-deed-known NoRoom h = tt
-deed-known Device h = tt
-deed-known CopyNoRoom h = tt
-deed-known CopyDevice h = tt
-deed-known Erase h = tt
-deed-known (Reason r) h = absurd h
+deed-known : (k : Kind) → Deed k → OfReason (λ r. r < 4096) k
+deed-known in-tests h = tt
+deed-known in-read h = tt
+deed-known (in-write f) h = tt
+deed-known (in-copy f) h = tt
+deed-known in-erase h = tt
+deed-known (in-file r) h = absurd h
 
 -- a count of at most k, or such a cause
 abbrev pub Upto : ℕ → Answer → Type 0
 Upto k (Moved m) = m ≤ k
-Upto k (Refused c) = Deed c
+Upto k (Refused c) = Deed (kindOf c)
 
 pub upto-countable : (k : ℕ) (a : Answer) → k < 9223372036854775808 → Upto k a → Countable a
 upto-countable k (Moved m) h u = omega arith
-upto-countable k (Refused c) h u = deed-known c u
+upto-countable k (Refused c) h u = deed-known (kindOf c) u
 
 -- the answer's number, read back from a signed word
-known-small : (c : Cause) → Known c → refusal c < 4096
-known-small Wrong h = omega arith
-known-small Unsound h = omega arith
-known-small Unmapped h = omega arith
-known-small NoRoom h = omega arith
-known-small Device h = omega arith
-known-small CopyNoRoom h = omega arith
-known-small CopyDevice h = omega arith
-known-small Erase h = omega arith
-known-small (Reason r) h = h
+known-small : (N : Numbers) (c : Cause) → Known c → refusal N c < 4096
+known-small N Wrong h = omega arith
+known-small N Unsound h = omega arith
+known-small N Unmapped h = omega arith
+known-small N NoRoom h = told-small N 14 28 4096 (omega arith) (omega arith)
+known-small N Device h = omega arith
+known-small N CopyNoRoom h = told-small N 14 28 4096 (omega arith) (omega arith)
+known-small N CopyDevice h = told-small N 14 121 4096 (omega arith) (omega arith)
+known-small N Erase h = omega arith
+known-small N (Reason r) h = h
 
-signed : (a : Answer) → Countable a → SFits w64 (number a)
-signed (Moved m) h = record { sfits = omega arith }
-signed (Refused c) h = small (refusal c) (known-small c h)
+signed : (N : Numbers) (a : Answer) → Countable a → SFits w64 (number N a)
+signed N (Moved m) h = record { sfits = omega arith }
+signed N (Refused c) h = small (refusal N c) (known-small N c h)
 
-pub read-back : (a : Answer) → Countable a → (z : ℤ) → z ≡ number a → toZ w64 (ofZ w64 z) ≡ number a
-read-back a h z e = toZ-ofZ w64 z (subst (SFits w64) (sym e) (signed a h)) ∙ e
+pub read-back : (N : Numbers) (a : Answer) → Countable a → (z : ℤ) → z ≡ number N a → toZ w64 (ofZ w64 z) ≡ number N a
+read-back N a h z e = toZ-ofZ w64 z (subst (SFits w64) (sym e) (signed N a h)) ∙ e
 
 upto-more : (j k : ℕ) (a : Answer) → j ≤ k → Upto j a → Upto k a
 upto-more j k (Moved m) h u = omega arith
@@ -97,20 +95,9 @@ upto-then : (j k : ℕ) (a : Answer) (o : Out) (f : State → Out) → o .answer
 upto-then j k (Moved m) o f e h r = r
 upto-then j k (Refused c) o f e h r = subst (Upto k) (sym e) h
 
-copy-deed : (c : Cause) → Deed c → Deed (ofCopy c)
-copy-deed Wrong h = h
-copy-deed Unsound h = h
-copy-deed Unmapped h = h
-copy-deed NoRoom h = tt
-copy-deed Device h = tt
-copy-deed CopyNoRoom h = tt
-copy-deed CopyDevice h = tt
-copy-deed Erase h = tt
-copy-deed (Reason r) h = h
-
 upto-copy : (k : ℕ) (a : Answer) → Upto k a → Upto k (copyAnswer a)
 upto-copy k (Moved m) h = h
-upto-copy k (Refused c) h = copy-deed c h
+upto-copy k (Refused c) h = as-copy Deed (λ _ d. d) c h
 
 module _ (G : Geometry) (bad : List ℕ) where
   -- ---- the answers

@@ -7,13 +7,14 @@ use lib.Dec.{eqb}
 use lib.ListN.{length}
 use lib.IntN.{ℤ, negsuc}
 use Rattle.model.specs.declared.Geometry.{Geometry}
+use Rattle.model.specs.declared.Numbers.{Numbers}
 use Rattle.model.specs.declared.Answer.{Answer}
 use Rattle.model.specs.Lists.{every, zeros}
 use Rattle.model.specs.Numbers.{good?, number}
 use Rattle.model.specs.Tables.{view}
 use Rattle.model.specs.Device.{Flash, state, Out}
 use Rattle.model.specs.Contract.{Done}
-use Rattle.model.specs.Entry.{Recorder, recorder, Lent, lent, Outcome, Promise, clean, tablesFit, flashFits, pageScratch, seenScratch, allFits}
+use Rattle.model.specs.Entry.{Recorder, recorder, Lent, lent, Outcome, PromiseIn, clean, tablesFit, flashFits, pageScratch, seenScratch, allFits}
 use Rattle.model.specs.Entry.{back, collecting}
 use Rattle.model.proofs.Guard.{guarded-passes}
 use Rattle.model.proofs.Refusals.{promised, guarded-sizes, guarded-sound}
@@ -85,37 +86,37 @@ module _ (G : Geometry) (bad : List ℕ) (x : Recorder) (page seen order : List 
     abbrev entry : Outcome
     entry = collecting G bad given o
 
-    wrong : (good? G && (fits? && order?)) ≡ false → Promise entry given (negsuc 21)
-    wrong e =
-        subst (λ (y : Outcome). Promise y given (negsuc 21)) (sym (guarded-sizes sized? sounds true true given (back G given o) (sized-not e)))
+    wrong : {N : Numbers} → (good? G && (fits? && order?)) ≡ false → PromiseIn N entry given (negsuc 21)
+    wrong {N} e =
+        subst (λ (y : Outcome). PromiseIn N y given (negsuc 21)) (sym (guarded-sizes sized? sounds true true given (back G given o) (sized-not e)))
         (promised refl)
 
-    pub wrong-geometry : good? G ≡ false → Promise entry given (negsuc 21)
+    pub wrong-geometry : {N : Numbers} → good? G ≡ false → PromiseIn N entry given (negsuc 21)
     wrong-geometry e = wrong (ap (λ g. g && (fits? && order?)) e)
 
-    pub wrong-size : good? G ≡ true → fits? ≡ false → Promise entry given (negsuc 21)
+    pub wrong-size : {N : Numbers} → good? G ≡ true → fits? ≡ false → PromiseIn N entry given (negsuc 21)
     wrong-size g e = wrong (ap₂ (λ g f. g && (f && order?)) g e)
 
-    pub wrong-order : good? G ≡ true → fits? ≡ true → order? ≡ false → Promise entry given (negsuc 21)
+    pub wrong-order : {N : Numbers} → good? G ≡ true → fits? ≡ true → order? ≡ false → PromiseIn N entry given (negsuc 21)
     wrong-order g h e = wrong (ap₂ _&&_ g (ap₂ _&&_ h e))
 
     -- the soundness test hands its scratch back as it was
-    pub unsound : Tested → sounds ≡ false → (seen′ : List ℕ) → seen′ ≡ zeros (G .n + G .p)
-        → Promise entry (lent x [] (page ∷ seen′ ∷ order ∷ [])) (negsuc 116)
-    unsound P e seen′ z =
-        subst (λ (s : List ℕ). Promise entry (lent x [] (page ∷ s ∷ order ∷ [])) (negsuc 116)) (P .passed .seen-clean ∙ sym z)
-        (subst (λ (y : Outcome). Promise y given (negsuc 116)) (sym (guarded-sound sized? sounds true true given (back G given o) (P .sizes) e))
+    pub unsound : {N : Numbers} → Tested → sounds ≡ false → (seen′ : List ℕ) → seen′ ≡ zeros (G .n + G .p)
+        → PromiseIn N entry (lent x [] (page ∷ seen′ ∷ order ∷ [])) (negsuc 116)
+    unsound {N} P e seen′ z =
+        subst (λ (s : List ℕ). PromiseIn N entry (lent x [] (page ∷ s ∷ order ∷ [])) (negsuc 116)) (P .passed .seen-clean ∙ sym z)
+        (subst (λ (y : Outcome). PromiseIn N y given (negsuc 116)) (sym (guarded-sound sized? sounds true true given (back G given o) (P .sizes) e))
         (promised refl))
 
     -- the inner call answered r, and left the words w, the use marks u and the flash f; z is what the entry answers
-    pub done : Tested → sounds ≡ true → (w u : List ℕ) (f : Flash) (page′ seen′ order′ : List ℕ)
+    pub done : {N : Numbers} → Tested → sounds ≡ true → (w u : List ℕ) (f : Flash) (page′ seen′ order′ : List ℕ)
         → length w ≡ length (x .words) → page′ ≡ zeros (G .s) → seen′ ≡ zeros (G .n + G .p) → order′ ≡ zeros (G .n)
-        → (r : Answer) → Done o r (state (view G w u) f) → (z : ℤ) → z ≡ number r
-        → Promise entry (lent (recorder w u f) [] (page′ ∷ seen′ ∷ order′ ∷ [])) z
-    done P s w u f page′ seen′ order′ long p q t r D z e =
-        subst (λ (y : Outcome). Promise y (lent (recorder w u f) [] (page′ ∷ seen′ ∷ order′ ∷ [])) z)
+        → (r : Answer) → Done o r (state (view G w u) f) → (z : ℤ) → z ≡ number N r
+        → PromiseIn N entry (lent (recorder w u f) [] (page′ ∷ seen′ ∷ order′ ∷ [])) z
+    done {N} P s w u f page′ seen′ order′ long p q t r D z e =
+        subst (λ (y : Outcome). PromiseIn N y (lent (recorder w u f) [] (page′ ∷ seen′ ∷ order′ ∷ [])) z)
         (sym (guarded-passes sized? sounds true true given (back G given o) (P .sizes) s refl refl))
-        (record { left-is = left; answer-is = e ∙ ap number (D .answer) })
+        (record { left-is = left; answer-is = e ∙ ap (number N) (D .answer) })
       where
         left : lent (recorder w u f) [] (page′ ∷ seen′ ∷ order′ ∷ []) ≡ back G given o .left
         left = cc (unit-is G bad x page seen (P .passed) o r w u f long D, p, q, t, P .passed .ready .page-clean, P .passed .seen-clean, P .order-clean)

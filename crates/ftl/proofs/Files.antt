@@ -10,6 +10,7 @@ use lib.ListN.{length}
 use lib.IntN.{ℤ, pos}
 use borrow.Author.Tests.{eq-eqb, ne-eqb}
 use Rattle.model.specs.declared.Geometry.{Geometry}
+use Rattle.model.specs.declared.Numbers.the-variants.{Old}
 use Rattle.model.specs.declared.Cause.the-variants.{Wrong, Unsound, Reason}
 use Rattle.model.specs.declared.Answer.the-variants.{Refused}
 use Rattle.model.specs.Lists.{every, splice}
@@ -33,20 +34,20 @@ module _ (G : Geometry) (b : List ℕ) (x : Lent) where
   abbrev pub restoreTests : List Bool
   restoreTests = tablesFit G x ∷ clean (pages G ∷ []) (x .scratch) ∷ []
 
-  pub restoring-wrong : good? G ≡ false → Promise (restoring G b x) x (number (Refused Wrong))
+  pub restoring-wrong : good? G ≡ false → Promise (restoring G b x) x (number Old (Refused Wrong))
   unfolding restoring
   restoring-wrong = bad-geometry G restoreTests true true true x _
 
-  pub restoring-size : every restoreTests ≡ false → Promise (restoring G b x) x (number (Refused Wrong))
+  pub restoring-size : every restoreTests ≡ false → Promise (restoring G b x) x (number Old (Refused Wrong))
   unfolding restoring
   restoring-size = bad-size G restoreTests true true true x _
 
   module _ (g : good? G ≡ true) (e : every restoreTests ≡ true) where
-    pub restoring-reason : (k : ℕ) (r : ℤ) → k ≡ reasonOf G b → k ≢ 0 → r ≡ number (Refused (Reason k)) → Promise (restoring G b x) x r
+    pub restoring-reason : (k : ℕ) (r : ℤ) → k ≡ reasonOf G b → k ≢ 0 → r ≡ number Old (Refused (Reason k)) → Promise (restoring G b x) x r
     unfolding restoring
     restoring-reason k r q h n =
         by (guarded-passes _ true true true x _ (all-sizes G restoreTests g e) refl refl refl ∙ unless-fails _ _ x _ (ne-eqb (reasonOf G b) 0 (λ z. h (q ∙ z))))
-        (record { left-is = refl; answer-is = n ∙ ap (λ m. number (Refused (Reason m))) q })
+        (record { left-is = refl; answer-is = n ∙ ap (λ m. number Old (Refused (Reason m))) q })
 
     pub restoring-done : reasonOf G b ≡ 0 → (w u : List ℕ) (s : List (List ℕ)) → length w ≡ tabWords G → view G w u ≡ restoredFrom G b → s ≡ x .scratch
         → Promise (restoring G b x) (lent (recorder w u (x .unit .flash)) (x .buffer) s) (pos 0)
@@ -60,16 +61,16 @@ module _ (G : Geometry) (x : Lent) where
   abbrev pub encodeTests : List Bool
   encodeTests = tablesFit G x ∷ leb (fileSize G) (length (x .buffer)) ∷ clean (seenScratch G ∷ []) (x .scratch) ∷ []
 
-  pub encoding-wrong : good? G ≡ false → Promise (encoding G x) x (number (Refused Wrong))
+  pub encoding-wrong : good? G ≡ false → Promise (encoding G x) x (number Old (Refused Wrong))
   unfolding encoding
   encoding-wrong = bad-geometry G encodeTests _ true true x _
 
-  pub encoding-size : every encodeTests ≡ false → Promise (encoding G x) x (number (Refused Wrong))
+  pub encoding-size : every encodeTests ≡ false → Promise (encoding G x) x (number Old (Refused Wrong))
   unfolding encoding
   encoding-size = bad-size G encodeTests _ true true x _
 
   module _ (g : good? G ≡ true) (e : every encodeTests ≡ true) (s : List (List ℕ)) (q : s ≡ x .scratch) where
-    pub encoding-unsound : soundb G (tablesOf G x) ≡ false → Promise (encoding G x) (lent (x .unit) (x .buffer) s) (number (Refused Unsound))
+    pub encoding-unsound : soundb G (tablesOf G x) ≡ false → Promise (encoding G x) (lent (x .unit) (x .buffer) s) (number Old (Refused Unsound))
     unfolding encoding
     encoding-unsound h =
         by (guarded-sound _ _ true true x _ (all-sizes G encodeTests g e) h)

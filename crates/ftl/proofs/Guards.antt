@@ -8,18 +8,19 @@ use lib.Dec.{eqb}
 use lib.ListN.{length, getD}
 use Rattle.model.specs.Lists.{every, blank, zeros}
 use Rattle.model.specs.declared.Geometry.{Geometry}
+use Rattle.model.specs.declared.Numbers.{Numbers}
 use Rattle.model.specs.declared.Cause.{Cause}
 use Rattle.model.specs.declared.Cause.the-variants.{Wrong}
 use Rattle.model.specs.declared.Answer.the-variants.{Refused}
 use Rattle.model.specs.Numbers.{good?, number}
-use Rattle.model.specs.Entry.{Lent, Outcome, Promise, refused, unless, guarded, clean}
+use Rattle.model.specs.Entry.{Lent, Outcome, PromiseIn, refused, unless, guarded, clean}
 use Rattle.model.proofs.Refusals.{every-not, promised, guarded-sizes}
 use Rattle.model.proofs.Guard.{both}
 use Rattle.ftl.proofs.Passing.{clean-zeros}
 
 -- a promise of an outcome is one of the same outcome by another name
-pub by : {o o′ : Outcome} {y : Lent} {r : ℤ} → o ≡ o′ → Promise o′ y r → Promise o y r
-by {y = y} {r = r} e = subst (λ o. Promise o y r) (sym e)
+pub by : {N : Numbers} {o o′ : Outcome} {y : Lent} {r : ℤ} → o ≡ o′ → PromiseIn N o′ y r → PromiseIn N o y r
+by {N} {y = y} {r = r} e = subst (λ o. PromiseIn N o y r) (sym e)
 
 -- a test that answers what it should, and what it answered
 pub told : {r t b : Bool} → r ≡ t → r ≡ b → t ≡ b
@@ -45,11 +46,11 @@ module _ (G : Geometry) (ts : List Bool) where
 
   module _ (b c d : Bool) (x : Lent) (o : Outcome) where
     -- refused for the geometry, and for a size
-    pub bad-geometry : good? G ≡ false → Promise (guarded (every (good? G ∷ ts)) b c d x o) x (number (Refused Wrong))
+    pub bad-geometry : {N : Numbers} → good? G ≡ false → PromiseIn N (guarded (every (good? G ∷ ts)) b c d x o) x (number N (Refused Wrong))
     unfolding every
     bad-geometry e = by (guarded-sizes (every (good? G ∷ ts)) b c d x o (rw e)) (promised refl)
 
-    pub bad-size : every ts ≡ false → Promise (guarded (every (good? G ∷ ts)) b c d x o) x (number (Refused Wrong))
+    pub bad-size : {N : Numbers} → every ts ≡ false → PromiseIn N (guarded (every (good? G ∷ ts)) b c d x o) x (number N (Refused Wrong))
     bad-size e = by (guarded-sizes (every (good? G ∷ ts)) b c d x o (not-sizes e)) (promised refl)
 
 -- a row of tests: one that fails, one that passes, and the last, of scratch

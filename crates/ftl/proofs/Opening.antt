@@ -7,6 +7,7 @@ use lib.ListN.{length}
 use lib.IntN.{pos}
 use Rattle.model.specs.Lists.{every}
 use Rattle.model.specs.declared.Geometry.{Geometry}
+use Rattle.model.specs.declared.Numbers.the-variants.{Old}
 use Rattle.model.specs.declared.Cause.the-variants.{Wrong}
 use Rattle.model.specs.declared.Answer.the-variants.{Refused}
 use Rattle.model.specs.Numbers.{good?, number}
@@ -33,11 +34,11 @@ one-test true = refl
 one-test false = refl
 
 module _ (G : Geometry) (x : Lent) where
-  pub opening-wrong : good? G ≡ false → Promise (opening G x) x (number (Refused Wrong))
+  pub opening-wrong : good? G ≡ false → Promise (opening G x) x (number Old (Refused Wrong))
   unfolding opening
   opening-wrong = bad-geometry G (tablesFit G x ∷ []) true true true x _
 
-  pub opening-size : tablesFit G x ≡ false → Promise (opening G x) x (number (Refused Wrong))
+  pub opening-size : tablesFit G x ≡ false → Promise (opening G x) x (number Old (Refused Wrong))
   unfolding opening
   opening-size e = bad-size G (tablesFit G x ∷ []) true true true x _ (one-test (tablesFit G x) ∙ e)
 
@@ -48,11 +49,11 @@ module _ (G : Geometry) (x : Lent) where
       by (guarded-passes _ true true true x _ (all-sizes G (tablesFit G x ∷ []) g (one-test (tablesFit G x) ∙ e)) refl refl refl)
       (record { left-is = cc (words-are G w u _ h v, marks-are G w u _ h v); answer-is = refl })
 
-  pub formatting-wrong : good? G ≡ false → Promise (formatting G x) x (number (Refused Wrong))
+  pub formatting-wrong : good? G ≡ false → Promise (formatting G x) x (number Old (Refused Wrong))
   unfolding formatting
   formatting-wrong = bad-geometry G (flashFits G (x .unit .flash) ∷ []) true true true x _
 
-  pub formatting-size : flashFits G (x .unit .flash) ≡ false → Promise (formatting G x) x (number (Refused Wrong))
+  pub formatting-size : flashFits G (x .unit .flash) ≡ false → Promise (formatting G x) x (number Old (Refused Wrong))
   unfolding formatting
   formatting-size e = bad-size G (flashFits G (x .unit .flash) ∷ []) true true true x _ (one-test (flashFits G (x .unit .flash)) ∙ e)
 
@@ -61,4 +62,4 @@ module _ (G : Geometry) (x : Lent) where
   unfolding formatting
   formatting-done g e f v =
       by (guarded-passes _ true true true x _ (all-sizes G (flashFits G (x .unit .flash) ∷ []) g (one-test (flashFits G (x .unit .flash)) ∙ e)) refl refl refl)
-      (record { left-is = cc v; answer-is = sym (ap number (formatted G (stateOf G x) (flash-test G (x .unit .flash) e) .answer)) })
+      (record { left-is = cc v; answer-is = sym (ap (number Old) (formatted G (stateOf G x) (flash-test G (x .unit .flash) e) .answer)) })

@@ -11,6 +11,7 @@ use lib.ListN.{length, take, drop}
 use lib.IntN.{ℤ, pos}
 use borrow.Author.Tests.{eq-eqb, ne-eqb, lt-ltb, le-ltb, le-leb, lt-leb}
 use Rattle.model.specs.declared.Geometry.{Geometry}
+use Rattle.model.specs.declared.Numbers.the-variants.{Old}
 use Rattle.model.specs.declared.Cause.the-variants.{Wrong, Unsound, Unmapped}
 use Rattle.model.specs.declared.Answer.the-variants.{Refused}
 use Rattle.model.specs.Lists.{every, slot, splice}
@@ -54,11 +55,11 @@ module _ (G : Geometry) (sector len : ℕ) (x : Lent) where
   abbrev pub wordRead : ℕ
   wordRead = wordOf (tablesOf G x) (logicalPage G sector)
 
-  pub read-wrong : good? G ≡ false → Promise (read G sector len x) x (number (Refused Wrong))
+  pub read-wrong : good? G ≡ false → Promise (read G sector len x) x (number Old (Refused Wrong))
   unfolding read
   read-wrong = bad-geometry G readTests _ _ _ x _
 
-  pub read-size : every readTests ≡ false → Promise (read G sector len x) x (number (Refused Wrong))
+  pub read-size : every readTests ≡ false → Promise (read G sector len x) x (number Old (Refused Wrong))
   unfolding read
   read-size = bad-size G readTests _ _ _ x _
 
@@ -75,24 +76,24 @@ module _ (G : Geometry) (sector len : ℕ) (x : Lent) where
       back : lent (x .unit) (x .buffer) s ≡ x
       back = ap (lent (x .unit) (x .buffer)) q
 
-      pub read-unsound : soundb G (tablesOf G x) ≡ false → Promise (read G sector len x) (lent (x .unit) (x .buffer) s) (number (Refused Unsound))
+      pub read-unsound : soundb G (tablesOf G x) ≡ false → Promise (read G sector len x) (lent (x .unit) (x .buffer) s) (number Old (Refused Unsound))
       unfolding read
       read-unsound h = by (guarded-sound _ _ _ _ x _ (all-sizes G readTests g e) h) (record { left-is = back; answer-is = refl })
 
       module _ (h : soundb G (tablesOf G x) ≡ true) where
-        pub read-page : G .e ≤ logicalPage G sector → Promise (read G sector len x) (lent (x .unit) (x .buffer) s) (number (Refused Wrong))
+        pub read-page : G .e ≤ logicalPage G sector → Promise (read G sector len x) (lent (x .unit) (x .buffer) s) (number Old (Refused Wrong))
         unfolding read
         read-page l =
             by (guarded-page _ _ _ _ x _ (all-sizes G readTests g e) h (le-ltb _ _ l)) (record { left-is = back; answer-is = refl })
 
         module _ (l : logicalPage G sector < G .e) where
-          pub read-overrun : G .s < offset G sector + len → Promise (read G sector len x) (lent (x .unit) (x .buffer) s) (number (Refused Wrong))
+          pub read-overrun : G .s < offset G sector + len → Promise (read G sector len x) (lent (x .unit) (x .buffer) s) (number Old (Refused Wrong))
           unfolding read
           read-overrun o =
               by (guarded-overrun _ _ _ _ x _ (all-sizes G readTests g e) h (lt-ltb _ _ l) (lt-leb _ _ o)) (record { left-is = back; answer-is = refl })
 
           module _ (o : offset G sector + len ≤ G .s) where
-            pub read-unmapped : wordRead ≡ empty → Promise (read G sector len x) (lent (x .unit) (x .buffer) s) (number (Refused Unmapped))
+            pub read-unmapped : wordRead ≡ empty → Promise (read G sector len x) (lent (x .unit) (x .buffer) s) (number Old (Refused Unmapped))
             unfolding read
             read-unmapped m =
                 by

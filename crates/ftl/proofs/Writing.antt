@@ -11,6 +11,7 @@ use lib.ListN.{length, take}
 use lib.Seq.{length-take-le}
 use borrow.Author.Tests.{le-leb, lt-leb, leb-true}
 use Rattle.model.specs.declared.Geometry.{Geometry}
+use Rattle.model.specs.declared.Numbers.{Numbers}
 use Rattle.model.specs.declared.Answer.{Answer}
 use Rattle.model.specs.declared.Cause.{Cause}
 use Rattle.model.specs.declared.Answer.the-variants.{Refused}
@@ -21,7 +22,7 @@ use Rattle.model.specs.Tables.{view}
 use Rattle.model.specs.Device.{Flash, State, state, Out}
 use Rattle.model.specs.Contract.{Done}
 use Rattle.model.specs.PageWrite.{writePage}
-use Rattle.model.specs.Entry.{Recorder, recorder, Lent, lent, Outcome, Promise, refused, clean, tablesFit, flashFits, pageScratch, seenScratch, allFits, back, write}
+use Rattle.model.specs.Entry.{Recorder, recorder, Lent, lent, Outcome, PromiseIn, refused, clean, tablesFit, flashFits, pageScratch, seenScratch, allFits, back, write}
 use Rattle.model.proofs.Guard.{guarded-passes}
 use Rattle.model.proofs.Refusals.{promised, guarded-sizes, guarded-sound, guarded-page, guarded-overrun}
 use Rattle.guard.specs.Countable.{Countable}
@@ -123,53 +124,53 @@ module _ (G : Geometry) (bad : List ℕ) (x : Recorder) (page seen : List ℕ) (
       h)
 
   -- a refusal that changes nothing
-  stays : (k : Cause) (z : ℤ) → z ≡ number (Refused k) → entry ≡ refused k given → Promise entry given z
-  stays k z e q = subst (λ (y : Outcome). Promise y given z) (sym q) (promised e)
+  stays : {N : Numbers} (k : Cause) (z : ℤ) → z ≡ number N (Refused k) → entry ≡ refused k given → PromiseIn N entry given z
+  stays {N} k z e q = subst (λ (y : Outcome). PromiseIn N y given z) (sym q) (promised e)
 
   -- the same after the soundness test, which hands its scratch back as it was
-  stays-seen : Pass → (seen′ : List ℕ) → seen′ ≡ zeros (G .n + G .p) → (k : Cause) (z : ℤ) → z ≡ number (Refused k) → entry ≡ refused k given
-      → Promise entry (lent x [] (page ∷ seen′ ∷ [])) z
-  stays-seen P seen′ s k z e q =
-      subst (λ (y : List ℕ). Promise entry (lent x [] (page ∷ y ∷ [])) z) (P .seen-clean ∙ sym s) (stays k z e q)
+  stays-seen : {N : Numbers} → Pass → (seen′ : List ℕ) → seen′ ≡ zeros (G .n + G .p) → (k : Cause) (z : ℤ) → z ≡ number N (Refused k) → entry ≡ refused k given
+      → PromiseIn N entry (lent x [] (page ∷ seen′ ∷ [])) z
+  stays-seen {N} P seen′ s k z e q =
+      subst (λ (y : List ℕ). PromiseIn N entry (lent x [] (page ∷ y ∷ [])) z) (P .seen-clean ∙ sym s) (stays k z e q)
 
-  wrong : (good? G && (fits? && long?)) ≡ false → Promise entry given (negsuc 21)
+  wrong : {N : Numbers} → (good? G && (fits? && long?)) ≡ false → PromiseIn N entry given (negsuc 21)
   unfolding write
   wrong e = stays Wrong (negsuc 21) refl (guarded-sizes sized? sounds inside? room? given (back G given inner) (sized-not e))
 
-  pub wrong-geometry : good? G ≡ false → Promise entry given (negsuc 21)
+  pub wrong-geometry : {N : Numbers} → good? G ≡ false → PromiseIn N entry given (negsuc 21)
   wrong-geometry e = wrong (rw e)
 
-  pub wrong-size : good? G ≡ true → fits? ≡ false → Promise entry given (negsuc 21)
+  pub wrong-size : {N : Numbers} → good? G ≡ true → fits? ≡ false → PromiseIn N entry given (negsuc 21)
   wrong-size g e = wrong (ap₂ (λ x y. x && (y && long?)) g e)
 
-  pub too-short : good? G ≡ true → fits? ≡ true → long? ≡ false → Promise entry given (negsuc 21)
+  pub too-short : {N : Numbers} → good? G ≡ true → fits? ≡ true → long? ≡ false → PromiseIn N entry given (negsuc 21)
   too-short g h e = wrong (ap₂ _&&_ g (ap₂ _&&_ h e))
 
   module _ (P : Pass) (l : long? ≡ true) (seen′ : List ℕ) (s : seen′ ≡ zeros (G .n + G .p)) where
     abbrev left : Lent
     left = lent x [] (page ∷ seen′ ∷ [])
 
-    pub unsound : sounds ≡ false → Promise entry left (negsuc 116)
+    pub unsound : {N : Numbers} → sounds ≡ false → PromiseIn N entry left (negsuc 116)
     unfolding write
     unsound e = stays-seen P seen′ s Unsound (negsuc 116) refl (guarded-sound sized? sounds inside? room? given (back G given inner) (sized P l) e)
 
-    pub outside : sounds ≡ true → inside? ≡ false → Promise entry left (negsuc 21)
+    pub outside : {N : Numbers} → sounds ≡ true → inside? ≡ false → PromiseIn N entry left (negsuc 21)
     unfolding write
     outside q e = stays-seen P seen′ s Wrong (negsuc 21) refl (guarded-page sized? sounds inside? room? given (back G given inner) (sized P l) q e)
 
-    pub overrun : sounds ≡ true → inside? ≡ true → room? ≡ false → Promise entry left (negsuc 21)
+    pub overrun : {N : Numbers} → sounds ≡ true → inside? ≡ true → room? ≡ false → PromiseIn N entry left (negsuc 21)
     unfolding write
     overrun q i e = stays-seen P seen′ s Wrong (negsuc 21) refl (guarded-overrun sized? sounds inside? room? given (back G given inner) (sized P l) q i e)
 
     -- the inner write answered r, and left the words w, the use marks u and the flash f; z is what the entry answers
-    pub done : sounds ≡ true → inside? ≡ true → room? ≡ true → (w u : List ℕ) (f : Flash) (page′ : List ℕ)
+    pub done : {N : Numbers} → sounds ≡ true → inside? ≡ true → room? ≡ true → (w u : List ℕ) (f : Flash) (page′ : List ℕ)
         → length w ≡ length (x .words) → page′ ≡ zeros (G .s) → (r : Answer) → Done (written (len - 0)) r (state (view G w u) f)
-        → (z : ℤ) → z ≡ number r → Promise entry (lent (recorder w u f) [] (page′ ∷ seen′ ∷ [])) z
+        → (z : ℤ) → z ≡ number N r → PromiseIn N entry (lent (recorder w u f) [] (page′ ∷ seen′ ∷ [])) z
     unfolding write
-    done q i o w u f page′ long p r D z e =
-        subst (λ (y : Outcome). Promise y (lent (recorder w u f) [] (page′ ∷ seen′ ∷ [])) z)
+    done {N} q i o w u f page′ long p r D z e =
+        subst (λ (y : Outcome). PromiseIn N y (lent (recorder w u f) [] (page′ ∷ seen′ ∷ [])) z)
         (sym (guarded-passes sized? sounds inside? room? given (back G given inner) (sized P l) q i o))
-        (record { left-is = all; answer-is = e ∙ ap number (D′ .answer) })
+        (record { left-is = all; answer-is = e ∙ ap (number N) (D′ .answer) })
       where
         D′ : Done inner r (state (view G w u) f)
         D′ = subst (λ (k : ℕ). Done (written k) r (state (view G w u) f)) (sub-zero len) D

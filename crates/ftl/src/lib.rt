@@ -10,12 +10,13 @@ ghost use Rattle.model.specs.Numbers.{Good, flat};
 ghost use Rattle.model.specs.Tables.{pages, tabWords};
 ghost use Rattle.model.specs.Device.{flash};
 ghost use Rattle.model.specs.Checkpoint.{fileSize};
-ghost use Rattle.model.specs.Entry.{recorder, lent, noFlash, Promise, tablesFit, clean, seenScratch};
+ghost use Rattle.model.specs.Entry.{recorder, lent, noFlash, Promise, PromiseIn, tablesFit, clean, seenScratch};
 ghost use Rattle.model.specs.Entry.{formatting, opening, read, write, collection, listCollection, thresholdCollection, encoding, restoring};
 use model::Answer;
 use model::Cause;
 use model::Geometry;
 use model::LogicalPage;
+use model::Numbers;
 use model::PhysicalAddress;
 
 // "Formatting erases every segment, whatever its count, sets counts to 0 and answers 0; it tests geometry and sizes only."
@@ -176,6 +177,7 @@ fn all_fit(
 // Bytes at a sector, within one page.
 pub fn write(
     geo: Geometry,
+    numbers: Numbers,
     sector: usize,
     len: usize,
     xs: &[u8],
@@ -189,7 +191,7 @@ pub fn write(
     page: &mut [u8],
     seen: &mut [u8],
 ) -> i64
-    ensures { λ r. ⌜ Promise
+    ensures { λ r. ⌜ PromiseIn numbers
         (write geo (now (bad .entry)) sector len (now (xs .entry))
         (lent (recorder (now (tab .entry)) (now (used .entry)) (flash (now (bytes .entry)) (now (marks .entry)) (now (counts .entry)) (now (fuse .entry)))) [] (now (page .entry) ∷ now (seen .entry) ∷ [])))
         (lent (recorder (now (tab .exit)) (now (used .exit)) (flash (now (bytes .exit)) (now (marks .exit)) (now (counts .entry)) (now (fuse .exit)))) [] (now (page .exit) ∷ now (seen .exit) ∷ [])) r ⌝ }
@@ -227,12 +229,13 @@ pub fn write(
         marks,
         fuse,
     );
-    guard::number(a)
+    guard::number(numbers, a)
 }
 
 // One collection.
 pub fn collect(
     geo: Geometry,
+    numbers: Numbers,
     bad: &[u8],
     tab: &mut [u32],
     used: &mut [u8],
@@ -244,7 +247,7 @@ pub fn collect(
     seen: &mut [u8],
     order: &mut [u32],
 ) -> i64
-    ensures { λ r. ⌜ Promise
+    ensures { λ r. ⌜ PromiseIn numbers
         (collection geo (now (bad .entry))
         (lent (recorder (now (tab .entry)) (now (used .entry)) (flash (now (bytes .entry)) (now (marks .entry)) (now (counts .entry)) (now (fuse .entry)))) [] (now (page .entry) ∷ now (seen .entry) ∷ now (order .entry) ∷ [])))
         (lent (recorder (now (tab .exit)) (now (used .exit)) (flash (now (bytes .exit)) (now (marks .exit)) (now (counts .exit)) (now (fuse .exit)))) [] (now (page .exit) ∷ now (seen .exit) ∷ now (order .exit) ∷ [])) r ⌝ }
@@ -262,12 +265,13 @@ pub fn collect(
         return -117;
     }
     let a = page_gc::collect(geo, bad, page, order, tab, used, bytes, marks, counts, fuse);
-    guard::number(a)
+    guard::number(numbers, a)
 }
 
 // Collections from the list, at most m of them counted.
 pub fn collect_list(
     geo: Geometry,
+    numbers: Numbers,
     m: usize,
     bad: &[u8],
     tab: &mut [u32],
@@ -280,7 +284,7 @@ pub fn collect_list(
     seen: &mut [u8],
     order: &mut [u32],
 ) -> i64
-    ensures { λ r. ⌜ Promise
+    ensures { λ r. ⌜ PromiseIn numbers
         (listCollection geo (now (bad .entry)) m
         (lent (recorder (now (tab .entry)) (now (used .entry)) (flash (now (bytes .entry)) (now (marks .entry)) (now (counts .entry)) (now (fuse .entry)))) [] (now (page .entry) ∷ now (seen .entry) ∷ now (order .entry) ∷ [])))
         (lent (recorder (now (tab .exit)) (now (used .exit)) (flash (now (bytes .exit)) (now (marks .exit)) (now (counts .exit)) (now (fuse .exit)))) [] (now (page .exit) ∷ now (seen .exit) ∷ now (order .exit) ∷ [])) r ⌝ }
@@ -310,12 +314,13 @@ pub fn collect_list(
         counts,
         fuse,
     );
-    guard::number(a)
+    guard::number(numbers, a)
 }
 
 // Collections from the list, unless more pages are free than the threshold.
 pub fn collect_threshold(
     geo: Geometry,
+    numbers: Numbers,
     threshold: u64,
     m: usize,
     bad: &[u8],
@@ -329,7 +334,7 @@ pub fn collect_threshold(
     seen: &mut [u8],
     order: &mut [u32],
 ) -> i64
-    ensures { λ r. ⌜ Promise
+    ensures { λ r. ⌜ PromiseIn numbers
         (thresholdCollection geo (now (bad .entry)) threshold m
         (lent (recorder (now (tab .entry)) (now (used .entry)) (flash (now (bytes .entry)) (now (marks .entry)) (now (counts .entry)) (now (fuse .entry)))) [] (now (page .entry) ∷ now (seen .entry) ∷ now (order .entry) ∷ [])))
         (lent (recorder (now (tab .exit)) (now (used .exit)) (flash (now (bytes .exit)) (now (marks .exit)) (now (counts .exit)) (now (fuse .exit)))) [] (now (page .exit) ∷ now (seen .exit) ∷ now (order .exit) ∷ [])) r ⌝ }
@@ -360,7 +365,7 @@ pub fn collect_threshold(
         counts,
         fuse,
     );
-    guard::number(a)
+    guard::number(numbers, a)
 }
 
 // What encoding tests beside the geometry: the tables, the buffer, and scratch for the soundness test.
@@ -434,7 +439,7 @@ pub fn restore(
     }
     let why = checkpoint::reason(geo, file);
     if why != 0 {
-        return guard::number(Answer::Refused(Cause::Reason(why)));
+        return guard::number(Numbers::Old, Answer::Refused(Cause::Reason(why)));
     }
     checkpoint::restore(geo, file, tab, used, taken);
     0

@@ -5,12 +5,13 @@ ghost use Prim.Native.Nat.{_+_, _*_, _<_};
 ghost use lib.Dec.{eqb};
 ghost use lib.ListN.{length};
 ghost use Rattle.model.specs.Lists.{blank};
-ghost use Rattle.model.specs.Numbers.{Good, refusal, negated, number};
+ghost use Rattle.model.specs.Numbers.{Good, told, refusal, negated, number};
 ghost use Rattle.model.specs.Tables.{tabWords, pages};
 ghost use Rattle.guard.specs.Countable.{Known, Countable};
 use model::Answer;
 use model::Cause;
 use model::Geometry;
+use model::Numbers;
 
 // The tables' sizes.
 pub fn tables_fit(geo: Geometry, tab: &[u32], used: &[u8]) -> bool
@@ -64,19 +65,29 @@ pub fn clean_words(s: &[u32], k: usize) -> bool
     sound::blank_words(s)
 }
 
-// "a refusal number": document 01's table.
-fn refusal(c: Cause) -> usize
+// The number by the choice: document 01's, or that of 02, M-101.
+fn told(numbers: Numbers, old: usize, new: usize) -> usize
+    ensures { λ r. ⌜ r ≡ told numbers old new ⌝ }
+{
+    match numbers {
+        Numbers::Old => old,
+        Numbers::New => new,
+    }
+}
+
+// "a refusal number": document 01's table, and 02's numbers.
+fn refusal(numbers: Numbers, c: Cause) -> usize
     requires { ⌜ Known c ⌝ }
-    ensures { λ r. ⌜ (r ≡ refusal c) × (r < 4096) ⌝ }
+    ensures { λ r. ⌜ (r ≡ refusal numbers c) × (r < 4096) ⌝ }
 {
     match c {
         Cause::Wrong => 22,
         Cause::Unsound => 117,
         Cause::Unmapped => 61,
-        Cause::NoRoom => 14,
+        Cause::NoRoom => told(numbers, 14, 28),
         Cause::Device => 5,
-        Cause::CopyNoRoom => 14,
-        Cause::CopyDevice => 14,
+        Cause::CopyNoRoom => told(numbers, 14, 28),
+        Cause::CopyDevice => told(numbers, 14, 121),
         Cause::Erase => 5,
         Cause::Reason(r) => r,
     }
@@ -90,12 +101,12 @@ fn negated(r: usize) -> i64
 }
 
 // "Each call answers one signed number: bytes moved, or a refusal number negated."
-pub fn number(a: Answer) -> i64
+pub fn number(numbers: Numbers, a: Answer) -> i64
     requires { ⌜ Countable a ⌝ }
-    ensures { λ r. ⌜ r ≡ number a ⌝ }
+    ensures { λ r. ⌜ r ≡ number numbers a ⌝ }
 {
     match a {
         Answer::Moved(m) => m as i64,
-        Answer::Refused(c) => negated(refusal(c)),
+        Answer::Refused(c) => negated(refusal(numbers, c)),
     }
 }

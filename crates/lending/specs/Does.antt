@@ -4,6 +4,7 @@ use mathlib.Core.Path.{_≡_}
 use mathlib.Core.List.{List}
 use lib.IntN.{ℤ}
 use Rattle.model.specs.declared.Geometry.{Geometry}
+use Rattle.model.specs.declared.Numbers.the-variants.{Old}
 use Rattle.model.specs.Numbers.{number}
 use Rattle.model.specs.Tables.{pages}
 use Rattle.model.specs.Entry.{Recorder, Outcome}
@@ -19,4 +20,4 @@ pub record Small (G : Geometry) : Type 0 where
 pub record Does (o : Outcome) (u : Recorder) (b : List ℕ) (r : ℤ) : Type 0 where
   pub unit-is : u ≡ o .left .unit
   pub buffer-is : b ≡ o .left .buffer
-  pub answer-is : r ≡ number (o .answer)
+  pub answer-is : r ≡ number Old (o .answer)

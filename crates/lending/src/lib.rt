@@ -9,6 +9,7 @@ ghost use Rattle.model.specs.Entry.{recorder, lent, noFlash, pageScratch, seenS
 ghost use Rattle.model.specs.Entry.{write, read, collection, listCollection, encoding, restoring};
 ghost use Rattle.lending.specs.Does.{Small, Does};
 use model::Geometry;
+use model::Numbers;
 
 // Bytes that stand at a place of xs, written at a sector.
 pub fn write(
@@ -42,6 +43,7 @@ pub fn write(
     let t = geo.n + geo.p;
     ftl::write(
         geo,
+        Numbers::Old,
         sector,
         len,
         &xs[at..end],
@@ -107,6 +109,7 @@ pub fn collect(
     let n = geo.n;
     ftl::collect(
         geo,
+        Numbers::Old,
         bad,
         tab,
         used,
@@ -149,6 +152,7 @@ pub fn collect_list(
     let n = geo.n;
     ftl::collect_list(
         geo,
+        Numbers::Old,
         m,
         bad,
         tab,

@@ -7,7 +7,7 @@ use lib.IntN.{ℤ, pos, negsuc}
 use lib.ListN.{getD, set, length, replicate}
 use Rattle.crc32.specs.Crc32.{plus, add, among, powers, low, remainder, bitsOf, bits, digit, number as valueOf, dividend, crc32}
 use Rattle.model.specs.Lists.{without, pushFront, insertBy, sortBy, splice, total, occ, all, every, blank, upTo, zeros}
-use Rattle.model.specs.Numbers.{Geometry, geometry, number, good?, endless}
+use Rattle.model.specs.Numbers.{Geometry, geometry, Numbers, Old, New, number, good?, endless}
 use Rattle.model.specs.Tables.{Tables, tables, tabWords, pages, view, packed}
 use Rattle.model.specs.Sound.{names, soundb}
 use Rattle.model.specs.Device.{Flash, flash, burn, mayProgram, mayErase, formatFrom}
@@ -39,21 +39,21 @@ record Row : Type 0 where
   calls : List (Geometry → Call)
   is : Seen
 
-abbrev see : Geometry → List ℕ → List (Geometry → Call) → Recorder → Seen
-see G bad [] r = record { replies = []; left = r }
-see G bad (c ∷ cs) r =
+abbrev see : Numbers → Geometry → List ℕ → List (Geometry → Call) → Recorder → Seen
+see N G bad [] r = record { replies = []; left = r }
+see N G bad (c ∷ cs) r =
     let o = run G bad (c G) r in
-    let rest = see G bad cs (o .left .unit) in
-    record { replies = record { answer = number (o .answer); buffer = o .left .buffer } ∷ rest .replies; left = rest .left }
+    let rest = see N G bad cs (o .left .unit) in
+    record { replies = record { answer = number N (o .answer); buffer = o .left .buffer } ∷ rest .replies; left = rest .left }
 
-seen : Row → Seen
+seen : Numbers → Row → Seen
 unfolding
     without pushFront insertBy sortBy splice total occ all every blank upTo good? view packed names soundb burn mayProgram mayErase formatFrom
     clearFrom findFrom find invalidate forget oldPage writeAt writePage sorted finishOf drain collectOf collect collectMore collectList
     collectThreshold usedBy word long words wordAt longAt wordsAt head file reasonOf welcome settleAll restored unless guarded clean formatting
     opening read encoding restoring write collection listCollection thresholdCollection plus add among powers low remainder bitsOf
     bits digit valueOf dividend crc32
-seen r = see (r .device) (r .bad) (r .calls) (r .start)
+seen N r = see N (r .device) (r .bad) (r .calls) (r .start)
 
 -- ---- what rows are written with
 
@@ -526,6 +526,83 @@ table =
     ∷ geometry 1 1 1 0 0 0
     ∷ [])
 
-examples : map seen table ≡ map (λ r. r .is) table
+examples : map (seen Old) table ≡ map (λ r. r .is) table
 unfolding seen table
 examples = refl
+
+-- ---- 02, M-101: the new numbers
+
+-- E4 before its collection: all segments full, segment 0 queued; and segment 0 full and queued, its pages dead, with segment 1 free
+brimming : Recorder
+brimming =
+    mem
+    (tables (three 3 1 2) (two 0 0) (two 1 2) (four 1 1 1 1) (four 1 0 2 0) (two 1 2) (two 0 0) (two 1 0) 1 1)
+    (flash (fill (four 1 2 3 4)) (four 1 1 1 1) (two 0 0) endless)
+
+told : List Row
+unfolding full brimming litter worn
+told =
+    -- E4: the collection whose copy finds no room gets 28, called by itself, from the list and with a threshold; so does a write then
+    row A brimming (gc ∷ page 0 5 ∷ []) (refused 28 ∷ refused 28 ∷ []) full
+    ∷ row A brimming (gcList 3 ∷ put 0 [] ∷ []) (refused 28 ∷ refused 28 ∷ []) full
+    ∷ row A brimming (gcBelow 0 3 ∷ []) (refused 28 ∷ []) full
+    -- a copy that meets a marked page gets 121, and spends its page
+    ∷ row B (over B (six 0 0 0 0 0 2) endless)
+    (opens ∷ page 0 1 ∷ page 1 2 ∷ page 0 3 ∷ gc ∷ [])
+    (moved 0 ∷ moved 4 ∷ moved 4 ∷ moved 4 ∷ refused 121 ∷ [])
+    (mem
+    (tables (four 2 1 none none) (two 0 2) (two 2 1) (six 1 1 1 1 0 0) (six 1 0 0 0 0 0) (two 2 0) (two 0 0) (two 1 0) 1 0)
+    (flash (fill (six 1 2 3 255 255 255)) (six 1 1 1 0 0 2) (two 0 0) endless))
+    -- so does one that the fuse refuses, from the list; a write that the device refuses gets 5 as before
+    ∷ row B (over B (six 2 0 0 0 0 0) 4)
+    (opens ∷ page 3 9 ∷ page 3 2 ∷ page 1 3 ∷ page 1 10 ∷ page 0 11 ∷ gcList 3 ∷ [])
+    (moved 0 ∷ refused 5 ∷ moved 4 ∷ moved 4 ∷ moved 4 ∷ moved 4 ∷ refused 121 ∷ [])
+    (mem
+    (tables (four 5 4 none 1) (two 0 0) (two 2 3) (six 1 1 1 1 1 1) (six 3 0 0 1 0 0) (two 1 2) (two 0 0) (two 1 0) 1 0)
+    (flash (fill (six 255 2 3 10 11 255)) (six 2 1 1 1 1 0) (two 0 0) 0))
+    -- an erase at its limit gets 5 as before
+    ∷ new (like-A 2 2 1 0)
+    (page 0 1 ∷ page 0 2 ∷ gc ∷ [])
+    (moved 4 ∷ moved 4 ∷ refused 5 ∷ [])
+    (mem
+    (tables (three 2 none none) (two 0 1) (two 0 1) (four 1 1 1 0) (four 0 0 0 0) (two 0 1) (two 0 0) (two 1 0) 1 0)
+    (flash (fill (four 1 2 2 255)) (four 1 1 1 0) (two 0 0) endless))
+    -- all segments bad, though pages are free: 28 where the victim has a listed page, 0 where it has none; a write gets 28
+    ∷ with-bad (two 9 9)
+    (row A
+    (mem
+    (tables (three 1 none none) (two 0 2) (two 1 0) (four 1 1 0 0) (four 0 0 0 0) (two 1 0) (two 0 0) (two 1 0) 0 1)
+    (flash (fill (four 1 2 255 255)) (four 1 1 0 0) (two 0 0) endless))
+    (gc ∷ page 1 3 ∷ [])
+    (refused 28 ∷ refused 28 ∷ [])
+    (mem
+    (tables (three 1 none none) (two 0 2) (two 1 0) (four 1 1 0 0) (four 0 0 0 0) (two 1 0) (two 0 0) (two 1 0) 0 0)
+    (flash (fill (four 1 2 255 255)) (four 1 1 0 0) (two 0 0) endless)))
+    ∷ with-bad (two 9 9)
+    (row A
+    (mem
+    (tables (three none none none) (two 0 2) (two 0 0) (four 1 1 0 0) (four 0 0 0 0) (two 0 0) (two 0 0) (two 1 0) 0 1)
+    (flash (fill (four 1 2 255 255)) (four 1 1 0 0) (two 0 0) endless))
+    (gc ∷ [])
+    (moved 0 ∷ [])
+    (mem
+    (tables (three none none none) (two 2 2) (two 0 0) (four 0 0 0 0) (four 0 0 0 0) (two 0 0) (two 0 0) (two 0 0) 0 0)
+    (flash (fill (four 255 255 255 255)) (four 0 0 0 0) (two 1 0) endless)))
+    -- the tests' numbers, and a count of 28, are what they were
+    ∷ row A (mem (litter 1) (worn endless))
+    (put 12 (9 ∷ []) ∷ gc ∷ opens ∷ put 12 (9 ∷ []) ∷ put 1 (four 7 7 7 7) ∷ get 0 4 ∷ [])
+    (refused 117 ∷ refused 117 ∷ moved 0 ∷ refused 22 ∷ refused 22 ∷ keeps 61 (zeros 4) ∷ [])
+    (mem
+    (tables (three none none none) (two 2 2) (two 0 0) (four 0 0 0 0) (four 0 0 0 0) (two 0 0) (two 0 0) (two 0 0) 1 0)
+    (worn endless))
+    ∷ new (geometry 1 1 28 0 1 0)
+    (page 0 3 ∷ [])
+    (moved 28 ∷ [])
+    (mem
+    (tables (0 ∷ []) (0 ∷ []) (1 ∷ []) (1 ∷ []) (0 ∷ []) (1 ∷ []) (0 ∷ []) (0 ∷ []) 0 0)
+    (flash (replicate 28 3) (1 ∷ []) (0 ∷ []) endless))
+    ∷ []
+
+examples-told : map (seen New) told ≡ map (λ r. r .is) told
+unfolding seen told
+examples-told = refl

@@ -37,6 +37,8 @@ pub mod Sealed
 -- entries
 pub mod Guard
 pub mod Outcome
+pub mod Causes
+pub mod Told
 pub mod Entry
 -- 02, M-102: no programming refused for its order
 pub mod Order

@@ -10,7 +10,8 @@ use lib.ListN.{length, take, getD-replicate}
 use lib.Seq.{getD-set-other, length-take-le}
 use borrow.Author.Tests.{eqb-true, eqb-false, ltb-true, leb-true, not-false}
 use Rattle.model.specs.Lists.{slot, splice, total, blank}
-use Rattle.model.specs.Numbers.{Geometry, Good, good?, logicalPage, offset, Answer, Moved, Refused, Cause, Wrong, Unsound, Unmapped, NoRoom, Device, CopyNoRoom, CopyDevice, Erase, Reason}
+use Rattle.model.specs.Numbers.{Geometry, Good, good?, logicalPage, offset, Answer, Moved, Refused, Cause, Wrong, Unsound, Unmapped, NoRoom, Device, Erase, Reason}
+use Rattle.model.specs.Causes.{kindOf}
 use Rattle.model.specs.Tables.{Tables, at}
 use Rattle.model.specs.Device.{Flash, State, state, Out, out, clearUp, mayProgram, mayErase, raised, blanked, EraseSeg, finish, refuse, behind, goOn, formatFrom}
 use Rattle.model.specs.PageMap.{find, spend, forget}
@@ -22,6 +23,7 @@ use Rattle.model.specs.Entry.{formatting, opening, read, write, collecti
 use Rattle.model.specs.History.{Call, Format, Open, Read, Write, Collect, CollectList, CollectThreshold, Encode, Restore}
 use Rattle.model.specs.History.{run, after, Begins, IsRefused, InService, delivered, called, lent-fuse, AtProgramming, OnlyFuse}
 use Rattle.model.specs.Contract.{Fit}
+use Rattle.model.proofs.Causes.{as-copy}
 use Rattle.model.proofs.Working.{Counted}
 use Rattle.model.proofs.View.{view-packed}
 use Rattle.model.proofs.Entry.{tab, Fits, all-fit, Stayed, Begun, opened-or, restored-or, by-kind}
@@ -99,15 +101,7 @@ module _ (G : Geometry) (K : Good G) (bad : List ℕ) where
 
 copy-only-fuse : (a : Answer) (f : Flash) → OnlyFuse a f → OnlyFuse (copyAnswer a) f
 copy-only-fuse (Moved m) f h = tt
-copy-only-fuse (Refused Wrong) f h = h
-copy-only-fuse (Refused Unsound) f h = h
-copy-only-fuse (Refused Unmapped) f h = h
-copy-only-fuse (Refused NoRoom) f h = h
-copy-only-fuse (Refused Device) f h = h
-copy-only-fuse (Refused CopyNoRoom) f h = h
-copy-only-fuse (Refused CopyDevice) f h = h
-copy-only-fuse (Refused Erase) f h = h
-copy-only-fuse (Refused (Reason r)) f h = h
+copy-only-fuse (Refused c) f h = as-copy (λ k. AtProgramming k → f .fuse ≡ 0) (λ _ e. e) c h
 
 module _ (G : Geometry) (K : Good G) (bad : List ℕ) where
   pub write-only-fuse : (st : State) → Counted G (st .tab) → Fit G (st .flash) → Ordered G st → (l off : ℕ) (d : List ℕ)
@@ -238,7 +232,7 @@ pub record Orderly (G : Geometry) (r : Recorder) (o : Outcome) : Type 0 where
   pub only : Ordered G (stateIn G r) → OnlyFuse (o .answer) (o .left .unit .flash)
 
 module _ (G : Geometry) (bad : List ℕ) where
-  refused-orderly : (c : Cause) → (AtProgramming c → ⊥) → (x : Lent) → Orderly G (x .unit) (refused c x)
+  refused-orderly : (c : Cause) → (AtProgramming (kindOf c) → ⊥) → (x : Lent) → Orderly G (x .unit) (refused c x)
   refused-orderly c n x = record { ordered = λ H. H; only = λ H z. absurd (n z) }
 
   -- an inner call, put back into what was lent

@@ -6,8 +6,8 @@ use mathlib.Core.List.{List, [], _∷_}
 use lib.ListN.{getD}
 use lib.IntN.{ℤ}
 use Rattle.model.specs.Lists.{every}
-use Rattle.model.specs.Numbers.{Refused, Cause, Wrong, Unsound, number}
-use Rattle.model.specs.Entry.{Lent, Outcome, Promise, refused, unless, guarded}
+use Rattle.model.specs.Numbers.{Numbers, Refused, Cause, Wrong, Unsound, number}
+use Rattle.model.specs.Entry.{Lent, Outcome, PromiseIn, refused, unless, guarded}
 
 -- one test of a list fails
 pub every-not : (bs : List Bool) (i : ℕ) → getD bs i true ≡ false → every bs ≡ false
@@ -18,7 +18,7 @@ every-not (true ∷ bs) (suc i) e = every-not bs i e
 every-not (false ∷ bs) (suc i) e = refl
 
 -- a refusal that changes nothing
-pub promised : {c : Cause} {x : Lent} {r : ℤ} → r ≡ number (Refused c) → Promise (refused c x) x r
+pub promised : {N : Numbers} {c : Cause} {x : Lent} {r : ℤ} → r ≡ number N (Refused c) → PromiseIn N (refused c x) x r
 promised e = record { left-is = refl; answer-is = e }
 
 module _ (a b c d : Bool) (x : Lent) (o : Outcome) where

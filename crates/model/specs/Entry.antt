@@ -8,7 +8,7 @@ use lib.Dec.{ltb, leb, eqb}
 use lib.ListN.{length, take, drop}
 use lib.IntN.{ℤ}
 use Rattle.model.specs.Lists.{every, blank, splice}
-use Rattle.model.specs.Numbers.{Geometry, Answer, Moved, Refused, Cause, Wrong, Unsound, Unmapped, Reason, empty, good?, logicalPage, offset, number}
+use Rattle.model.specs.Numbers.{Geometry, Numbers, Old, Answer, Moved, Refused, Cause, Wrong, Unsound, Unmapped, Reason, empty, good?, logicalPage, offset, number}
 use Rattle.model.specs.Tables.{Tables, wordOf, tabWords, pages, view, packed}
 use Rattle.model.specs.Sound.{soundb}
 use Rattle.model.specs.Device.{Flash, flash, Op, State, state, Out, formatFrom}
@@ -43,10 +43,14 @@ pub record Outcome : Type 0 where
 abbrev pub outcome : Lent → Answer → List Op → Outcome
 outcome x a os = record { left = x; answer = a; ops = os }
 
--- what an entry promises: it leaves what it was lent, and answers, as the outcome o says
-pub record Promise (o : Outcome) (left : Lent) (r : ℤ) : Type 0 where
+-- what an entry promises: it leaves what it was lent, and answers, as the outcome o says, in the numbers that were chosen
+pub record PromiseIn (N : Numbers) (o : Outcome) (left : Lent) (r : ℤ) : Type 0 where
   pub left-is : left ≡ o .left
-  pub answer-is : r ≡ number (o .answer)
+  pub answer-is : r ≡ number N (o .answer)
+
+-- of an entry whose numbers no choice changes
+abbrev pub Promise : Outcome → Lent → ℤ → Type 0
+Promise = PromiseIn Old
 
 -- what stands for a part that an entry is not lent
 abbrev pub noFlash : Flash

@@ -5,8 +5,8 @@ use mathlib.Core.Logic.{_≢_, _⊎_}
 use mathlib.Core.List.{List, [], _∷_}
 use lib.ListN.{length, getD, set, take}
 use Rattle.model.specs.Lists.{onSlot, zeros}
-use Rattle.model.specs.Numbers.{Geometry, Answer, Moved, Refused, Cause, Wrong, Unsound, Unmapped, NoRoom, Device, CopyNoRoom, CopyDevice, Erase, Reason}
-use Rattle.model.specs.Numbers.{empty, endless, segOf}
+use Rattle.model.specs.Numbers.{Geometry, Answer, Moved, Refused, empty, endless, segOf}
+use Rattle.model.specs.Causes.{Kind, in-tests, in-read, in-write, in-copy, in-erase, in-file, kindOf, AtDevice}
 use Rattle.model.specs.Tables.{view, packed, pages}
 use Rattle.model.specs.Device.{Flash, flash, formattedFlash, Op, Program, EraseSeg, state, perform}
 use Rattle.model.specs.PageWrite.{Content, content}
@@ -90,22 +90,19 @@ pub data InService (G : Geometry) : Recorder → Type 0 where
   lent-fuse : {r : Recorder} → InService G r → (f : ℕ) → InService G (lit f r)
   called : {r : Recorder} → InService G r → (bad : List ℕ) (c : Call) → (Begins c → IsRefused (run G bad c r .answer)) → InService G (after G bad c r)
 
--- "refused for this": the answer says that a programming was refused, a write's or a copy's
-abbrev pub AtProgramming : Cause → Type 0
-AtProgramming Wrong = ⊥
-AtProgramming Unsound = ⊥
-AtProgramming Unmapped = ⊥
-AtProgramming NoRoom = ⊥
-AtProgramming Device = Unit {0}
-AtProgramming CopyNoRoom = ⊥
-AtProgramming CopyDevice = Unit {0}
-AtProgramming Erase = ⊥
-AtProgramming (Reason r) = ⊥
+-- "refused for this": a programming was refused, a write's or a copy's
+abbrev pub AtProgramming : Kind → Type 0
+AtProgramming (in-write f) = AtDevice f
+AtProgramming (in-copy f) = AtDevice f
+AtProgramming in-tests = ⊥
+AtProgramming in-read = ⊥
+AtProgramming in-erase = ⊥
+AtProgramming (in-file r) = ⊥
 
 -- if so, then because the fuse is out: of an answer, and the flash that is left
 abbrev pub OnlyFuse : Answer → Flash → Type 0
 OnlyFuse (Moved m) f = Unit {0}
-OnlyFuse (Refused c) f = AtProgramming c → f .fuse ≡ 0
+OnlyFuse (Refused c) f = AtProgramming (kindOf c) → f .fuse ≡ 0
 
 -- ---- power cuts
 

@@ -1,6 +1,7 @@
 -- What document 01 says, as definitions that compute. Each carries the sentence that it says, in quotation marks.
 pub mod Lists
 pub mod Numbers
+pub mod Causes
 pub mod Tables
 pub mod Sound
 pub mod Device

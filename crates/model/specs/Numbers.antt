@@ -1,11 +1,13 @@
 -- Document 01, "Geometry and numbers".
 use Prim.Native.Nat.{ℕ, zero, suc, _+_, _*_, _^_, _/_, _%_, _≤_}
-use mathlib.Core.Bool.{Bool}
+use mathlib.Core.Bool.{Bool, cond}
 use mathlib.Core.List.{List, [], _∷_}
-use lib.Dec.{leb}
+use lib.Dec.{leb, eqb}
 use lib.IntN.{ℤ, pos, negsuc}
 use Rattle.model.specs.Lists.{every}
 pub use Rattle.model.specs.declared.Geometry.{Geometry}
+pub use Rattle.model.specs.declared.Numbers.{Numbers}
+pub use Rattle.model.specs.declared.Numbers.the-variants.{Old, New}
 pub use Rattle.model.specs.declared.Cause.{Cause}
 pub use Rattle.model.specs.declared.Cause.the-variants.{Wrong, Unsound, Unmapped, NoRoom, Device, CopyNoRoom, CopyDevice, Erase, Reason}
 pub use Rattle.model.specs.declared.Answer.{Answer}
@@ -78,23 +80,34 @@ module _ (G : Geometry) where
   abbrev pub offset : ℕ → ℕ
   offset sector = sector % G.s
 
--- The numbers of the table in "What a call answers", and the reasons of "Checkpoint".
-abbrev pub refusal : Cause → ℕ
-refusal Wrong = 22
-refusal Unsound = 117
-refusal Unmapped = 61
-refusal NoRoom = 14
-refusal Device = 5
-refusal CopyNoRoom = 14
-refusal CopyDevice = 14
-refusal Erase = 5
-refusal (Reason r) = r
+-- 02, M-101: "The old numbers stay under a named old choice"
+abbrev pub told : Numbers → (old new : ℕ) → ℕ
+told Old old new = old
+told New old new = new
+
+-- The numbers of the table in "What a call answers", and the reasons of "Checkpoint". 02, M-101: "A write without room gets 28; a collection says
+-- whether a copy failed for room (28) or at the device (121)."
+abbrev pub refusal : Numbers → Cause → ℕ
+refusal N Wrong = 22
+refusal N Unsound = 117
+refusal N Unmapped = 61
+refusal N NoRoom = told N 14 28
+refusal N Device = 5
+refusal N CopyNoRoom = told N 14 28
+refusal N CopyDevice = told N 14 121
+refusal N Erase = 5
+refusal N (Reason r) = r
 
 -- "Each call answers one signed number: bytes moved, or a refusal number negated." (-0 is 0)
 abbrev pub negated : ℕ → ℤ
 negated zero = pos 0
 negated (suc r) = negsuc r
 
-abbrev pub number : Answer → ℤ
-number (Moved m) = pos m
-number (Refused c) = negated (refusal c)
+abbrev pub number : Numbers → Answer → ℤ
+number N (Moved m) = pos m
+number N (Refused c) = negated (refusal N c)
+
+-- "after 28 and 121 are read as 14"
+abbrev pub asOld : ℤ → ℤ
+asOld (pos m) = pos m
+asOld (negsuc k) = cond (eqb k 27) (negsuc 13) (cond (eqb k 120) (negsuc 13) (negsuc k))

@@ -16,13 +16,19 @@ pub struct LogicalPage(pub usize);
 
 pub struct PhysicalAddress(pub u32);
 
-// What finding a page gives: page k of segment g, or no page.
+// What finding a page gives: page k of segment g, or that no segment outside the bad list has a free page (`found`, `Full` in proofs/Find.antt).
 pub enum Found {
     At(usize, usize),
     Nothing,
 }
 
-// Why a call is refused. `number` of the definitions gives document 01's number for each.
+// The choice of numbers: 01's, or those of 02, M-101, which tell a refusal for room (28) and a copy's at the device (121) from a bad address (14).
+pub enum Numbers {
+    Old,
+    New,
+}
+
+// Why a call is refused. `number` of the definitions gives for each the number of document 01, or of 02 under the new choice.
 pub enum Cause {
     // Geometry, a lent size, the logical page, a page overrun, a checkpoint buffer too short.
     Wrong,
@@ -30,11 +36,11 @@ pub enum Cause {
     Unsound,
     // A read of an unmapped page.
     Unmapped,
-    // A write: no segment outside the bad list has a free page.
+    // A write: finding a page gave `Nothing`.
     NoRoom,
     // A write: the device refused the programming; the page found is spent.
     Device,
-    // A collection: a copy found no room, or was refused by the device.
+    // A collection: what its copy, a write, was refused for, passed on.
     CopyNoRoom,
     CopyDevice,
     // A collection: the erase was refused.

@@ -6,6 +6,7 @@ ghost use Rattle.crc32.specs.Crc32.{crc32, after};
 ghost use Rattle.model.specs.Checkpoint.{long, words};
 ghost use Rattle.replay.specs.Lent.{everything};
 use model::Geometry;
+use model::Numbers;
 use numbers::Reading;
 use std::num::wrapping_add_u64;
 
@@ -238,6 +239,7 @@ fn gather(
     if op == 8 {
         return ftl::collect(
             geo,
+            Numbers::Old,
             bad,
             tab,
             used,
@@ -253,6 +255,7 @@ fn gather(
     if op == 9 {
         return ftl::collect_list(
             geo,
+            Numbers::Old,
             a,
             bad,
             tab,
@@ -268,6 +271,7 @@ fn gather(
     }
     ftl::collect_threshold(
         geo,
+        Numbers::Old,
         a as u64,
         b,
         bad,
@@ -308,6 +312,7 @@ fn call(
         6 => ftl::read(geo, a, b, tab, used, bytes, buffer, seen),
         7 => ftl::write(
             geo,
+            Numbers::Old,
             a,
             b,
             buffer,

@@ -232,7 +232,7 @@ returns-5 c =
     (g .collect .result)
     (done-is g)
     (toZ w64 (ofZ w64 (c .number .result)))
-    (read-back (g .collect .result) (countable-is g) (c .number .result) (c .number .ensures))
+    (read-back (a .numbers) (g .collect .result) (countable-is g) (c .number .result) (c .number .ensures))
 
 -- ---- what the search finds, and the pieces put together
 

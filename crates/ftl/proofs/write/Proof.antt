@@ -285,7 +285,7 @@ returns-7 c =
     (g .write-page .result)
     (g .write-page .ensures .0 (a .counts .now))
     (toZ w64 (ofZ w64 (c .number .result)))
-    (read-back (g .write-page .result) (countable-is g) (c .number .result) (c .number .ensures))
+    (read-back (a .numbers) (g .write-page .result) (countable-is g) (c .number .result) (c .number .ensures))
 
 -- ---- what the search finds, and the pieces put together
 

@@ -31,10 +31,10 @@ refusal-requires : tie.Need-refusal-requires
 refusal-requires c κs = subst Countable (c .before .a2 .given .1) (c .before .before .before .pre)
 
 returns : tie.Need-returns
-returns c = toZ-pos w64 _ (omega (arith, fits c)) ∙ sym (ap number (c .before .a .given .1))
+returns c = toZ-pos w64 _ (omega (arith, fits c)) ∙ sym (ap (number (c .before .before .before .args .numbers)) (c .before .a .given .1))
 
 returns-2 : tie.Need-returns-2
-returns-2 c = toZ-ofZ w64 (c .negated .result) (subst (SFits w64) (sym (c .negated .ensures)) (small _ (at-refusal c .refusal .ensures .1))) ∙ c .negated .ensures ∙ ap negated (at-refusal c .refusal .ensures .0) ∙ sym (ap number (at-refusal c .before .before .a2 .given .1))
+returns-2 c = toZ-ofZ w64 (c .negated .result) (subst (SFits w64) (sym (c .negated .ensures)) (small _ (at-refusal c .refusal .ensures .1))) ∙ c .negated .ensures ∙ ap negated (at-refusal c .refusal .ensures .0) ∙ sym (ap (number (at-refusal c .before .before .before .before .args .numbers)) (at-refusal c .before .before .a2 .given .1))
 
 -- ---- what the search finds, and the pieces put together
 

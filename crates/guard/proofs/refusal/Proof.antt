@@ -1,16 +1,37 @@
 -- `refusal` meets its contract, cause by cause.
-use mathlib.Core.Path.{_≡_, refl, sym, ap, _∙_, subst}
+use Prim.Native.Nat.{ℕ, _<_}
 use native.Mathlib.Omega.{arith}
-use Rattle.model.specs.Numbers.{refusal}
+use mathlib.Core.Path.{_≡_, refl, sym, ap, _∙_, subst}
+use Rattle.model.specs.declared.Numbers.{Numbers}
+use Rattle.model.specs.declared.Cause.{Cause}
+use Rattle.model.specs.declared.Cause.the-variants.{NoRoom, CopyNoRoom, CopyDevice}
+use Rattle.model.specs.Numbers.{told, refusal}
+use Rattle.model.proofs.Told.{told-small}
 use Rattle.guard.specs.Countable.{Known}
 use borrow.Author.Needs.{needs}
 use Rattle.guard.proofs.refusal.Statement.{statement}
 use Rattle.guard.proofs.refusal.Tie as tie
 use Rattle.guard.proofs.refusal.Reads as reads
 use Rattle.guard.proofs.refusal.Lts as lts
+use Rattle.guard.proofs.told.Reads as told-reads
 
+-- a cause k whose number, told by the choice, is old or new
+by-choice : (N : Numbers) (c k : Cause) (old new x : ℕ) → c ≡ k → refusal N k ≡ told N old new → old < 4096 → new < 4096 → x ≡ told N old new
+    → (x ≡ refusal N c) × (x < 4096)
+by-choice N c k old new x e d h i t = (t ∙ sym d ∙ ap (refusal N) (sym e), subst (λ y. y < 4096) (sym t) (told-small N old new 4096 h i))
+
+returns-4 : tie.Need-returns-4
+returns-4 c = by-choice _ _ NoRoom 14 28 _ (c .before .enum-told4 .given .1) refl (omega arith) (omega arith) (c .told .ensures)
+
+returns-6 : tie.Need-returns-6
+returns-6 c = by-choice _ _ CopyNoRoom 14 28 _ (c .before .enum-told6 .given .1) refl (omega arith) (omega arith) (c .told2 .ensures)
+
+returns-7 : tie.Need-returns-7
+returns-7 c = by-choice _ _ CopyDevice 14 121 _ (c .before .enum-told7 .given .1) refl (omega arith) (omega arith) (c .told3 .ensures)
+
+-- a reason is its own number
 returns-9 : tie.Need-returns-9
-returns-9 c = let s = c .before .before .before in (sym (ap refusal (c .before .c .given .1)), subst Known (c .before .c .given .1) (s .pre))
+returns-9 c = let s = c .before .before .before in (sym (ap (refusal (s .args .numbers)) (c .before .c .given .1)), subst Known (c .before .c .given .1) (s .pre))
 
 -- ---- what the search finds, and the pieces put together
 
@@ -26,14 +47,23 @@ enum-told-3 c = search needs
 enum-told-4 : tie.Need-enum-told-4
 enum-told-4 c = search needs
 
+told-requires : tie.Need-told-requires
+told-requires c κs = search needs
+
 enum-told-5 : tie.Need-enum-told-5
 enum-told-5 c = search needs
 
 enum-told-6 : tie.Need-enum-told-6
 enum-told-6 c = search needs
 
+told-requires-2 : tie.Need-told-requires-2
+told-requires-2 c κs = search needs
+
 enum-told-7 : tie.Need-enum-told-7
 enum-told-7 c = search needs
+
+told-requires-3 : tie.Need-told-requires-3
+told-requires-3 c κs = search needs
 
 enum-told-8 : tie.Need-enum-told-8
 enum-told-8 c = search needs
@@ -50,17 +80,8 @@ returns-2 c = search needs
 returns-3 : tie.Need-returns-3
 returns-3 c = search needs
 
-returns-4 : tie.Need-returns-4
-returns-4 c = search needs
-
 returns-5 : tie.Need-returns-5
 returns-5 c = search needs
-
-returns-6 : tie.Need-returns-6
-returns-6 c = search needs
-
-returns-7 : tie.Need-returns-7
-returns-7 c = search needs
 
 returns-8 : tie.Need-returns-8
 returns-8 c = search needs
@@ -73,9 +94,12 @@ refusal-spec =
     enum-told-2
     enum-told-3
     enum-told-4
+    told-requires
     enum-told-5
     enum-told-6
+    told-requires-2
     enum-told-7
+    told-requires-3
     enum-told-8
     enum-known-c
     returns
