@@ -15,7 +15,7 @@ int main(void)
 
     if (answer == 0) answer = shr_unit_format(&geo, &unit);
     if (answer == 0) answer = shr_unit_open(&geo, &unit);
-    if (answer == 0) answer = shr_unit_write(&geo, &unit, 5, sizeof peak, peak);
+    if (answer == 0) answer = shr_unit_write_told(&geo, &unit, 5, sizeof peak, peak);
     len = answer < 0 ? answer : shr_unit_encode(&geo, &unit, file, sizeof file);
     if (len < 0) {
         printf("refused: %s\n", shr_refusal_text(len));

@@ -46,7 +46,7 @@ struct part {
 };
 
 struct tally {
-    unsigned long peaks, checkpoints, collected, moved, no_room, device, worn;
+    unsigned long peaks, checkpoints, collected, moved, full, device, worn;
 };
 
 struct recorder {
@@ -220,7 +220,7 @@ static int power_gone(const struct recorder *r, int64_t answer)
 static int64_t put(struct recorder *r, size_t sector, size_t len, const uint8_t *data)
 {
     for (;;) {
-        int64_t answer = shr_unit_write(&r->geo, &r->unit, sector, len, data);
+        int64_t answer = shr_unit_write_told(&r->geo, &r->unit, sector, len, data);
         if (answer >= 0) part_program(r, shr_unit_map(&r->geo, &r->unit, sector / PAGE));
         if (answer != -SHR_DEVICE || r->unit.fuse == 0) return answer;
         r->tally.device++;
@@ -258,7 +258,7 @@ static int64_t make_room(struct recorder *r)
     }
     if (!r->careless) checkpoint(r);
     r->erasing = g;
-    answer = shr_unit_collect(&r->geo, &r->unit);
+    answer = shr_unit_collect_told(&r->geo, &r->unit);
     if (power_gone(r, answer)) return answer;
     r->erasing = SEGMENTS;
     if (answer < 0) return answer;
@@ -282,7 +282,7 @@ static int64_t keep_reserve(struct recorder *r)
         }
         answer = make_room(r);
         if (power_gone(r, answer)) return answer;
-        if (answer == -SHR_NO_ROOM) return 0;
+        if (answer == -SHR_FULL) return 0;
         if (answer == -SHR_DEVICE) r->tally.worn++;
         else if (answer < 0) stop("collection", shr_refusal_text(answer));
     }
@@ -323,7 +323,7 @@ static int64_t record(struct recorder *r)
     r->minute += 1 + (uint32_t)any(9);
     to_bytes(peak, r->minute, methane, sensor);
     answer = put(r, sector_of(sensor, r->next[sensor - 1]), PEAK, peak);
-    if (answer == -SHR_NO_ROOM) r->tally.no_room++;
+    if (answer == -SHR_FULL) r->tally.full++;
     if (answer < 0) return answer;
     r->newest[sensor - 1] = r->minute;
     r->next[sensor - 1] = (r->next[sensor - 1] + 1) % RING;
@@ -429,10 +429,10 @@ static int64_t live(struct recorder *r, unsigned life, unsigned long most)
     int64_t answer = 0;
     memset(t, 0, sizeof *t);
     while (answer >= 0 && t->peaks < most) answer = record(r);
-    if (answer < 0 && answer != -SHR_DEVICE && answer != -SHR_NO_ROOM) stop("record", shr_refusal_text(answer));
+    if (answer < 0 && answer != -SHR_DEVICE && answer != -SHR_FULL) stop("record", shr_refusal_text(answer));
     if (life == 1 && t->device > 0) stop("record", "a programming refused with power left, before any restore");
-    printf("life %u: %lu peaks, %lu checkpoints, %lu segments collected, %lu pages moved, %lu worn out; refused 14: %lu, 5: %lu\n", life,
-           t->peaks, t->checkpoints, t->collected, t->moved, t->worn, t->no_room, t->device);
+    printf("life %u: %lu peaks, %lu checkpoints, %lu segments collected, %lu pages moved, %lu worn out; refused 28: %lu, 5: %lu\n", life,
+           t->peaks, t->checkpoints, t->collected, t->moved, t->worn, t->full, t->device);
     return answer;
 }
 
@@ -484,7 +484,7 @@ int main(int argc, char **argv)
     first_time(&r);
     while (cut < cuts) {
         r.unit.fuse = any(span);
-        if (live(&r, (unsigned)++cut, 100000) == -SHR_NO_ROOM) break;
+        if (live(&r, (unsigned)++cut, 100000) == -SHR_FULL) break;
         printf("cut   %s\n", part_torn(&r));
         lost += come_up(&r, SHR_ENDLESS);
     }

@@ -19,14 +19,16 @@ void feature(uint32_t group, uint64_t value) {
 #define ALL B(BAD), W(TAB), B(USED), FLASH, B(PAGE), B(SEEN), W(ORDER)
 
 static int64_t answer_of(const struct call *c) {
+    bool told = c->numbers == NEW;
     switch (c->entry) {
     case FORMAT: return shr_format(G, FLASH);
     case OPEN: return shr_open(G, W(TAB), B(USED));
     case READ: return shr_read(G, c->sector, c->length, W(TAB), B(USED), B(BYTES), B(OUT), B(SEEN));
-    case WRITE: return shr_write(G, c->sector, c->length, B(XS), B(BAD), W(TAB), B(USED), FLASH, B(PAGE), B(SEEN));
-    case COLLECT: return shr_collect(G, ALL);
-    case COLLECT_LIST: return shr_collect_list(G, c->m, ALL);
-    case COLLECT_THRESHOLD: return shr_collect_threshold(G, c->threshold, c->m, ALL);
+    case WRITE:
+        return (told ? shr_write_told : shr_write)(G, c->sector, c->length, B(XS), B(BAD), W(TAB), B(USED), FLASH, B(PAGE), B(SEEN));
+    case COLLECT: return (told ? shr_collect_told : shr_collect)(G, ALL);
+    case COLLECT_LIST: return (told ? shr_collect_list_told : shr_collect_list)(G, c->m, ALL);
+    case COLLECT_THRESHOLD: return (told ? shr_collect_threshold_told : shr_collect_threshold)(G, c->threshold, c->m, ALL);
     case ENCODE: return shr_encode(G, W(TAB), B(USED), B(CHECKPOINT), B(SEEN));
     default: return shr_restore(G, B(CHECKPOINT), W(TAB), B(USED), B(TAKEN));
     }
@@ -72,7 +74,7 @@ static uint64_t state_met(const struct call *c) {
            few(*(uint64_t *)lent[FUSE].before) * 8192;
 }
 
-static uint64_t last; // entry and answer of the call before, in this input
+static uint64_t last; // name and answer of the call before, in this input
 
 void calls_start(void) {
     last = 0;
@@ -80,26 +82,31 @@ void calls_start(void) {
 
 static void note(const struct call *c, const struct verdict *v) {
     uint64_t answer = c->answer < 0 ? -(uint64_t)c->answer : 200 + few(c->answer);
-    uint64_t now = answer * ENTRIES + c->entry;
+    uint64_t names = NUMBERS * ENTRIES, name = c->numbers * ENTRIES + c->entry;
+    uint64_t now = answer * names + name;
     feature(1, now);
-    feature(2, v->cause * ENTRIES + c->entry);
-    feature(3, (uint64_t)changed_slices(c) * ENTRIES + c->entry);
+    feature(2, v->cause * names + name);
+    feature(3, changed_slices(c) * names + name);
     feature(4, last << 16 | now);
     feature(5, state_met(c) << 16 | now);
     last = now;
 }
 
-static uint64_t tally[ENTRIES][128];
+static uint64_t tally[NUMBERS][ENTRIES][128];
 
-// How often each entry gave each answer; every count of bytes or passes is one column.
+static void report_name(const char *name, const uint64_t *answers) {
+    fprintf(stderr, "calls  %-22s", name);
+    for (int k = 0; k < 128; k++)
+        if (answers[k] && k) fprintf(stderr, "  %d: %llu", -k, (unsigned long long)answers[k]);
+        else if (answers[k]) fprintf(stderr, "  done: %llu", (unsigned long long)answers[k]);
+    fprintf(stderr, "\n");
+}
+
+// How often each name gave each answer; every count of bytes or passes is one column.
 void calls_report(void) {
-    for (int i = 0; i < ENTRIES; i++) {
-        fprintf(stderr, "calls  %-17s", entry_name[i]);
-        for (int k = 0; k < 128; k++)
-            if (tally[i][k] && k) fprintf(stderr, "  %d: %llu", -k, (unsigned long long)tally[i][k]);
-            else if (tally[i][k]) fprintf(stderr, "  done: %llu", (unsigned long long)tally[i][k]);
-        fprintf(stderr, "\n");
-    }
+    for (int k = 0; k < NUMBERS; k++)
+        for (int i = 0; i < ENTRIES; i++)
+            if (entry_name[k][i]) report_name(entry_name[k][i], tally[k][i]);
 }
 
 static void check_crc(const struct call *c) {
@@ -115,5 +122,5 @@ void call(struct call *c) {
     check(c, &v);
     check_sizes(c);
     if (c->entry == WRITE) check_crc(c);
-    tally[c->entry][c->answer < 0 ? -c->answer : 0]++;
+    tally[c->numbers][c->entry][c->answer < 0 ? -c->answer : 0]++;
 }

@@ -5,15 +5,20 @@
 #include <stdlib.h>
 #include <string.h>
 
-const char *const entry_name[ENTRIES] = {"format",       "open",              "read",   "write",  "collect",
-                                         "collect_list", "collect_threshold", "encode", "restore"};
+const char *const entry_name[NUMBERS][ENTRIES] = {
+    [OLD] = {"format", "open", "read", "write", "collect", "collect_list", "collect_threshold", "encode", "restore"},
+    [NEW] = {[WRITE] = "write_told",
+             [COLLECT] = "collect_told",
+             [COLLECT_LIST] = "collect_list_told",
+             [COLLECT_THRESHOLD] = "collect_threshold_told"},
+};
 
 _Noreturn void failed(const struct call *c, const char *what) {
     const struct geo *g = &c->geo;
     fprintf(stderr,
             "FAILED %s: %s\n  answer %lld; n %llu p %llu s %llu w %llu e %llu limit %llu; sector %llu length %llu m %llu "
             "threshold %llu\n",
-            entry_name[c->entry], what, (long long)c->answer, (unsigned long long)g->n, (unsigned long long)g->p,
+            entry_name[c->numbers][c->entry], what, (long long)c->answer, (unsigned long long)g->n, (unsigned long long)g->p,
             (unsigned long long)g->s, (unsigned long long)g->w, (unsigned long long)g->e, (unsigned long long)g->limit,
             (unsigned long long)c->sector, (unsigned long long)c->length, (unsigned long long)c->m,
             (unsigned long long)c->threshold);
@@ -243,8 +248,15 @@ static void check_left(const struct call *c, const struct verdict *v) {
     }
 }
 
+// A count, or one of the refusals that a collection has when it runs.
+static bool is_collections_answer(const struct call *c) {
+    for (int cause = COPY_NO_ROOM; cause <= ERASE; cause++)
+        if (c->answer == refusal(c->numbers, cause)) return true;
+    return c->answer >= 0;
+}
+
 void check(const struct call *c, const struct verdict *v) {
-    if (v->answer == OPEN_ANSWER) DEMAND(c, c->answer >= 0 || c->answer == -14 || c->answer == -5, "not a collection's answer");
+    if (v->answer == OPEN_ANSWER) DEMAND(c, is_collections_answer(c), "not a collection's answer");
     else DEMAND(c, c->answer == v->answer, "not the answer that 01 and 02 give");
     check_lending(c);
     check_left(c, v);

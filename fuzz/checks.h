@@ -3,7 +3,7 @@
 #define CHECKS_H
 #include "rules.h"
 
-// An answer that 01's rules settle only with the end content: a collection's success, 14 or 5.
+// An answer that the rules settle only with the end content: that of a collection that runs.
 #define OPEN_ANSWER INT64_MIN
 
 struct verdict {
@@ -22,6 +22,6 @@ _Noreturn void failed(const struct call *c, const char *what);
         if (!(ok)) failed(c, what);                                                                                    \
     } while (0)
 
-extern const char *const entry_name[ENTRIES];
+extern const char *const entry_name[NUMBERS][ENTRIES]; // no name: the entry has no such choice
 
 #endif

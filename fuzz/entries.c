@@ -1,4 +1,4 @@
-// The target: an input's bytes become a geometry, what is lent, and calls over all nine entries.
+// The target: an input's bytes become a geometry, what is lent, and calls over all nine entries, in old and new numbers.
 #include "blocks.h"
 #include "calls.h"
 #include "input.h"
@@ -148,8 +148,8 @@ static void run(struct call *c, uint8_t place) {
     odd_geo = geo;
 }
 
-static void transfer(int entry) {
-    struct call c = {.entry = entry};
+static void transfer(int entry, int numbers) {
+    struct call c = {.entry = entry, .numbers = numbers};
     int buffer = entry == READ ? OUT : XS;
     uint64_t offset;
     c.sector = number(geo.e - 1) * geo.s;
@@ -163,11 +163,11 @@ static void transfer(int entry) {
 
 // Whole pages written one after another, to fill segments and the queue with few bytes of input: until a refusal, or as a careful
 // caller does, until a segment's worth of pages is left.
-static void burst(void) {
+static void burst(int numbers) {
     uint64_t e = geo.e ? geo.e : 1, s = least(geo.s, 1024), l = within(e - 1), count = 1 + within(95);
     uint8_t seed = byte();
     for (uint64_t i = 0; i < count && lent_bytes < MOST_LENT; i++) {
-        struct call c = {.entry = WRITE, .sector = (l + i) % e * geo.s, .length = s};
+        struct call c = {.entry = WRITE, .numbers = numbers, .sector = (l + i) % e * geo.s, .length = s};
         lent[XS].size = s;
         fill(XS, 0, s, seed + i, 91);
         run(&c, seed + i);
@@ -177,8 +177,8 @@ static void burst(void) {
     }
 }
 
-static void collection(int entry) {
-    struct call c = {.entry = entry};
+static void collection(int entry, int numbers) {
+    struct call c = {.entry = entry, .numbers = numbers};
     if (entry == COLLECT_THRESHOLD) c.threshold = number(geo.n * geo.p);
     if (entry != COLLECT) c.m = number(geo.n);
     run(&c, byte());
@@ -332,14 +332,16 @@ static void change(uint8_t kind) {
     else damage_file();
 }
 
+// Six bits of the byte say what is done, the highest one in which numbers a write or a collection answers.
 static void step(void) {
-    uint8_t kind = byte() % 64;
-    if (kind < 15) transfer(WRITE);
-    else if (kind < 18) burst();
-    else if (kind < 23) transfer(READ);
-    else if (kind < 29) collection(COLLECT);
-    else if (kind < 34) collection(COLLECT_LIST);
-    else if (kind < 38) collection(COLLECT_THRESHOLD);
+    uint8_t x = byte(), kind = x % 64;
+    int numbers = x < 128 ? OLD : NEW;
+    if (kind < 15) transfer(WRITE, numbers);
+    else if (kind < 18) burst(numbers);
+    else if (kind < 23) transfer(READ, OLD);
+    else if (kind < 29) collection(COLLECT, numbers);
+    else if (kind < 34) collection(COLLECT_LIST, numbers);
+    else if (kind < 38) collection(COLLECT_THRESHOLD, numbers);
     else if (kind < 42) encoding();
     else if (kind < 47) plain(RESTORE);
     else if (kind < 49) plain(OPEN);

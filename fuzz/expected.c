@@ -1,10 +1,6 @@
 // The answer that 01 and 02 give for an entry and everything lent to it.
 #include "checks.h"
 
-static bool is_collection(int entry) {
-    return entry == COLLECT || entry == COLLECT_LIST || entry == COLLECT_THRESHOLD;
-}
-
 static struct verdict says(int64_t answer, int cause) {
     return (struct verdict){.answer = answer, .cause = cause};
 }
@@ -16,10 +12,11 @@ static struct verdict expected_transfer(const struct call *c, const struct table
     if (c->sector % g->s + c->length > g->s) return says(-22, 41);
     if (c->entry == READ) return t->map[l] == EMPTY ? says(-61, 42) : says((int64_t)c->length, 43);
     size_t a = find(g, t, lent[BAD].before);
-    if (a == NONE) return says(-14, 44);
-    if (*(uint64_t *)lent[FUSE].before == 0) return says(-5, 45);
-    if (lent[MARKS].before[a]) return says(-5, 46);
-    if (marked_above(g, lent[MARKS].before, a)) return says(-5, 49);
+    int64_t device = refusal(c->numbers, DEVICE);
+    if (a == NONE) return says(refusal(c->numbers, NO_ROOM), 44);
+    if (*(uint64_t *)lent[FUSE].before == 0) return says(device, 45);
+    if (lent[MARKS].before[a]) return says(device, 46);
+    if (marked_above(g, lent[MARKS].before, a)) return says(device, 49);
     return says((int64_t)c->length, t->map[l] == EMPTY ? 47 : 48);
 }
 

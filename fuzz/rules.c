@@ -18,6 +18,20 @@ const uint8_t role[ENTRIES][SLICES] = {
     [RESTORE] = {[CHECKPOINT] = READ_ONLY, [TAB] = LENT, [USED] = LENT, [TAKEN] = LENT},
 };
 
+bool is_collection(int entry) {
+    return entry == COLLECT || entry == COLLECT_LIST || entry == COLLECT_THRESHOLD;
+}
+
+// The answer that a cause gets; the choice changes only what 01 answers with 14.
+int64_t refusal(int numbers, int cause) {
+    switch (cause) {
+    case NO_ROOM:
+    case COPY_NO_ROOM: return numbers == NEW ? -28 : -14;
+    case COPY_DEVICE: return numbers == NEW ? -121 : -14;
+    default: return -5;
+    }
+}
+
 bool good(const struct geo *g) {
     return g->n >= 1 && g->n <= 65535 && g->p >= 1 && g->p <= 1024 && g->s >= 1 && g->s <= 16384 && g->w <= 16 &&
            g->p <= (uint64_t)1 << g->w && g->e >= 1 && g->e <= g->n * g->p && g->limit <= UINT32_MAX;

@@ -1,4 +1,5 @@
 // The static library's entries, as C sees them. A slice is a pointer and its number of elements.
+// A name with _told does what the name without it does and answers in the new numbers of 02's M-101.
 #ifndef SHR_H
 #define SHR_H
 #include <stddef.h>
@@ -9,6 +10,9 @@
 #define READ32(x) const uint32_t *x, size_t x##_len
 #define LENT8(x) uint8_t *x, size_t x##_len
 #define LENT32(x) uint32_t *x, size_t x##_len
+#define WRITING                                                                                                        \
+    size_t sector, size_t len, READ8(xs), READ8(bad), LENT32(tab), LENT8(used), LENT8(bytes), LENT8(marks),            \
+        READ32(counts), uint64_t *fuse, LENT8(page), LENT8(seen)
 #define COLLECTION                                                                                                     \
     READ8(bad), LENT32(tab), LENT8(used), LENT8(bytes), LENT8(marks), LENT32(counts), uint64_t *fuse, LENT8(page),     \
         LENT8(seen), LENT32(order)
@@ -16,11 +20,14 @@
 int64_t shr_format(GEO, LENT8(bytes), LENT8(marks), LENT32(counts), uint64_t *fuse);
 int64_t shr_open(GEO, LENT32(tab), LENT8(used));
 int64_t shr_read(GEO, size_t sector, size_t length, READ32(tab), READ8(used), READ8(bytes), LENT8(out), LENT8(seen));
-int64_t shr_write(GEO, size_t sector, size_t len, READ8(xs), READ8(bad), LENT32(tab), LENT8(used), LENT8(bytes),
-                  LENT8(marks), READ32(counts), uint64_t *fuse, LENT8(page), LENT8(seen));
+int64_t shr_write(GEO, WRITING);
+int64_t shr_write_told(GEO, WRITING);
 int64_t shr_collect(GEO, COLLECTION);
+int64_t shr_collect_told(GEO, COLLECTION);
 int64_t shr_collect_list(GEO, size_t m, COLLECTION);
+int64_t shr_collect_list_told(GEO, size_t m, COLLECTION);
 int64_t shr_collect_threshold(GEO, uint64_t threshold, size_t m, COLLECTION);
+int64_t shr_collect_threshold_told(GEO, uint64_t threshold, size_t m, COLLECTION);
 int64_t shr_encode(GEO, READ32(tab), READ8(used), LENT8(buffer), LENT8(seen));
 int64_t shr_restore(GEO, READ8(file), LENT32(tab), LENT8(used), LENT8(taken));
 

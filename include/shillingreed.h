@@ -27,14 +27,17 @@ extern "C" {
 /* A fuse without end. Any other number is how many device operations are still done. */
 #define SHR_ENDLESS (~(uint64_t)0)
 
-/* A call's refusals, negated in its answer. Restoring has reasons of its own, below. */
+/* A call's refusals, negated in its answer. Old numbers are those of the names without `told`. Restoring has reasons of its own, below. */
 enum shr_refusal {
     SHR_DEVICE = 5,    /* write: the device refused the programming, since the page's mark or that of a higher page of its segment is set
                           or the fuse is out, and the page found is spent; collection: it refused the erase */
-    SHR_NO_ROOM = 14,  /* write: no segment outside the bad list has a free page; collection: a copy got 14 or 5 */
+    SHR_NO_ROOM = 14,  /* in the old numbers. write: no segment outside the bad list has a free page; collection: a copy found none, or the
+                          device refused it */
     SHR_WRONG = 22,    /* geometry or a lent size is wrong, scratch is not zero, past the last logical page, or past the page's end */
+    SHR_FULL = 28,     /* in the new numbers. write, and a copy of a collection: no segment outside the bad list has a free page */
     SHR_UNMAPPED = 61, /* read of a logical page that was never written */
-    SHR_UNSOUND = 117  /* the tables are not sound */
+    SHR_UNSOUND = 117, /* the tables are not sound */
+    SHR_COPY_DEVICE = 121 /* in the new numbers. collection: the device refused the programming of a copy, whose page is spent */
 };
 
 /* Why a file is not restored, in the order of the tests, negated in the answer. Tables of wrong size get SHR_WRONG first. */
@@ -107,6 +110,32 @@ int64_t shr_collect_threshold(size_t n, size_t p, size_t s, size_t w, size_t e, 
                               uint8_t *bytes, size_t bytes_len, uint8_t *marks, size_t marks_len,
                               uint32_t *counts, size_t counts_len, uint64_t *fuse, uint8_t *page, size_t page_len,
                               uint8_t *seen, size_t seen_len, uint32_t *order, size_t order_len);
+
+/*
+ * The same four calls in the numbers that tell a full device from a refusing one, for new programs: where a write above answers
+ * -SHR_NO_ROOM, its told call answers -SHR_FULL; where a collection does, -SHR_FULL or -SHR_COPY_DEVICE. Every other answer, and all that
+ * a call leaves, is the same.
+ */
+int64_t shr_write_told(size_t n, size_t p, size_t s, size_t w, size_t e, size_t limit,
+                       size_t sector, size_t len, const uint8_t *xs, size_t xs_len, const uint8_t *bad, size_t bad_len,
+                       uint32_t *tab, size_t tab_len, uint8_t *used, size_t used_len,
+                       uint8_t *bytes, size_t bytes_len, uint8_t *marks, size_t marks_len, const uint32_t *counts, size_t counts_len,
+                       uint64_t *fuse, uint8_t *page, size_t page_len, uint8_t *seen, size_t seen_len);
+int64_t shr_collect_told(size_t n, size_t p, size_t s, size_t w, size_t e, size_t limit,
+                         const uint8_t *bad, size_t bad_len, uint32_t *tab, size_t tab_len, uint8_t *used, size_t used_len,
+                         uint8_t *bytes, size_t bytes_len, uint8_t *marks, size_t marks_len, uint32_t *counts, size_t counts_len,
+                         uint64_t *fuse, uint8_t *page, size_t page_len, uint8_t *seen, size_t seen_len,
+                         uint32_t *order, size_t order_len);
+int64_t shr_collect_list_told(size_t n, size_t p, size_t s, size_t w, size_t e, size_t limit, size_t m,
+                              const uint8_t *bad, size_t bad_len, uint32_t *tab, size_t tab_len, uint8_t *used, size_t used_len,
+                              uint8_t *bytes, size_t bytes_len, uint8_t *marks, size_t marks_len, uint32_t *counts, size_t counts_len,
+                              uint64_t *fuse, uint8_t *page, size_t page_len, uint8_t *seen, size_t seen_len,
+                              uint32_t *order, size_t order_len);
+int64_t shr_collect_threshold_told(size_t n, size_t p, size_t s, size_t w, size_t e, size_t limit, uint64_t threshold, size_t m,
+                                   const uint8_t *bad, size_t bad_len, uint32_t *tab, size_t tab_len, uint8_t *used, size_t used_len,
+                                   uint8_t *bytes, size_t bytes_len, uint8_t *marks, size_t marks_len,
+                                   uint32_t *counts, size_t counts_len, uint64_t *fuse, uint8_t *page, size_t page_len,
+                                   uint8_t *seen, size_t seen_len, uint32_t *order, size_t order_len);
 
 /* Writes the checkpoint of the tables into the buffer's front. Answers its length, 44 + 4e + 4n. */
 int64_t shr_encode(size_t n, size_t p, size_t s, size_t w, size_t e, size_t limit,
@@ -219,6 +248,28 @@ static inline int64_t shr_unit_collect_list(const struct shr_geometry *geo, stru
 static inline int64_t shr_unit_collect_threshold(const struct shr_geometry *geo, struct shr_unit *u, uint64_t threshold, size_t m)
 {
     return shr_collect_threshold(SHR_GEO_(geo), threshold, m, SHR_ALL_(u), SHR_LEND_(u->order));
+}
+
+/* The four of them in the new numbers. */
+static inline int64_t shr_unit_write_told(const struct shr_geometry *geo, struct shr_unit *u, size_t sector, size_t len,
+                                          const uint8_t *data)
+{
+    return shr_write_told(SHR_GEO_(geo), sector, len, data, len, SHR_ALL_(u));
+}
+
+static inline int64_t shr_unit_collect_told(const struct shr_geometry *geo, struct shr_unit *u)
+{
+    return shr_collect_told(SHR_GEO_(geo), SHR_ALL_(u), SHR_LEND_(u->order));
+}
+
+static inline int64_t shr_unit_collect_list_told(const struct shr_geometry *geo, struct shr_unit *u, size_t m)
+{
+    return shr_collect_list_told(SHR_GEO_(geo), m, SHR_ALL_(u), SHR_LEND_(u->order));
+}
+
+static inline int64_t shr_unit_collect_threshold_told(const struct shr_geometry *geo, struct shr_unit *u, uint64_t threshold, size_t m)
+{
+    return shr_collect_threshold_told(SHR_GEO_(geo), threshold, m, SHR_ALL_(u), SHR_LEND_(u->order));
 }
 
 static inline int64_t shr_unit_encode(const struct shr_geometry *geo, struct shr_unit *u, uint8_t *buffer, size_t size)
@@ -403,6 +454,8 @@ static inline const char *shr_refusal_text(int64_t answer)
     switch (answer) {
     case -SHR_DEVICE: return "the device refused";
     case -SHR_NO_ROOM: return "no room";
+    case -SHR_FULL: return "full: no free page outside the bad list";
+    case -SHR_COPY_DEVICE: return "the device refused a copy";
     case -SHR_WRONG: return "wrong geometry, size, sector or length";
     case -SHR_UNMAPPED: return "page never written";
     case -SHR_UNSOUND: return "tables not sound";

@@ -1,6 +1,6 @@
 //! The port and the Rust side by side: each call is made on both, and everything is compared after it.
 use crate::calls::{Call, Case};
-use crate::port::{self, Geometry, Unit};
+use crate::port::{self, Geometry, Numbers::Old, Unit};
 use originals::{Original, Shape};
 
 /// What is compared, in the order in which it is.
@@ -168,15 +168,15 @@ impl Pair {
     fn both(&mut self, call: &Call, out: &mut (Vec<u8>, Vec<u8>)) -> (i64, i64) {
         let Pair { g, bad, unit, rust, last, .. } = self;
         match call {
-            Call::Write { sector, len, data } => (port::write(g, bad, *sector, *len, data, unit), rust.write(*sector, *len, data)),
+            Call::Write { sector, len, data } => (port::write(g, Old, bad, *sector, *len, data, unit), rust.write(*sector, *len, data)),
             Call::Read { sector, length } => {
                 let room = (*length).min(LONGEST) + TAIL;
                 *out = (vec![FILLING; room], vec![FILLING; room]);
                 (port::read(g, *sector, *length, unit, &mut out.0), rust.read(*sector, *length, &mut out.1))
             }
-            Call::Collect => (port::collect(g, bad, unit), rust.collect()),
-            Call::List(m) => (port::collect_list(g, bad, *m, unit), rust.collect_list(*m as u64)),
-            Call::Threshold(t, m) => (port::collect_threshold(g, bad, *t, *m, unit), rust.collect_threshold(*t, *m as u64)),
+            Call::Collect => (port::collect(g, Old, bad, unit), rust.collect()),
+            Call::List(m) => (port::collect_list(g, Old, bad, *m, unit), rust.collect_list(*m as u64)),
+            Call::Threshold(t, m) => (port::collect_threshold(g, Old, bad, *t, *m, unit), rust.collect_threshold(*t, *m as u64)),
             Call::Encode => {
                 *out = (vec![FILLING; g.checkpoint_bytes()], rust.encode());
                 (port::encode(g, unit, &mut out.0), out.1.len() as i64)

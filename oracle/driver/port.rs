@@ -8,14 +8,24 @@ pub const EMPTY: u32 = u32::MAX;
 /// A fuse without end.
 pub const ENDLESS: u64 = u64::MAX;
 
-/// Declares the entries: each takes the six numbers of a geometry first.
-macro_rules! entries {
-    ($($name:ident($($arg:ident: $ty:ty),*) -> $ret:ty;)*) => {
+extern "C" {
+    fn shr_crc32(xs: *const u8, xs_len: usize) -> u32;
+}
+
+/// Declares an entry: it takes the six numbers of a geometry first.
+macro_rules! entry {
+    ($name:ident($($arg:ident: $ty:ty),*) -> $ret:ty) => {
         extern "C" {
-            $(fn $name(n: usize, p: usize, s: usize, w: usize, e: usize, limit: usize
-                       $(, $arg: $ty)*) -> $ret;)*
-            fn shr_crc32(xs: *const u8, xs_len: usize) -> u32;
+            fn $name(n: usize, p: usize, s: usize, w: usize, e: usize, limit: usize
+                     $(, $arg: $ty)*) -> $ret;
         }
+    };
+}
+
+/// Declares the entries; names that share a list of parameters each take that list.
+macro_rules! entries {
+    ($($($name:ident),+ $args:tt -> $ret:ty;)*) => {
+        $($(entry! { $name $args -> $ret })+)*
     };
 }
 
@@ -26,27 +36,28 @@ entries! {
     shr_read(sector: usize, length: usize, tab: *const u32, tab_len: usize,
         used: *const u8, used_len: usize, bytes: *const u8, bytes_len: usize,
         out: *mut u8, out_len: usize, seen: *mut u8, seen_len: usize) -> i64;
-    shr_write(sector: usize, len: usize, xs: *const u8, xs_len: usize,
+    shr_write, shr_write_told(sector: usize, len: usize, xs: *const u8, xs_len: usize,
         bad: *const u8, bad_len: usize, tab: *mut u32, tab_len: usize,
         used: *mut u8, used_len: usize, bytes: *mut u8, bytes_len: usize,
         marks: *mut u8, marks_len: usize, counts: *const u32, counts_len: usize,
         fuse: *mut u64, page: *mut u8, page_len: usize,
         seen: *mut u8, seen_len: usize) -> i64;
-    shr_collect(bad: *const u8, bad_len: usize, tab: *mut u32, tab_len: usize,
+    shr_collect, shr_collect_told(bad: *const u8, bad_len: usize, tab: *mut u32, tab_len: usize,
         used: *mut u8, used_len: usize, bytes: *mut u8, bytes_len: usize,
         marks: *mut u8, marks_len: usize, counts: *mut u32, counts_len: usize,
         fuse: *mut u64, page: *mut u8, page_len: usize, seen: *mut u8, seen_len: usize,
         order: *mut u32, order_len: usize) -> i64;
-    shr_collect_list(m: usize, bad: *const u8, bad_len: usize, tab: *mut u32, tab_len: usize,
-        used: *mut u8, used_len: usize, bytes: *mut u8, bytes_len: usize,
-        marks: *mut u8, marks_len: usize, counts: *mut u32, counts_len: usize,
-        fuse: *mut u64, page: *mut u8, page_len: usize, seen: *mut u8, seen_len: usize,
-        order: *mut u32, order_len: usize) -> i64;
-    shr_collect_threshold(threshold: u64, m: usize, bad: *const u8, bad_len: usize,
+    shr_collect_list, shr_collect_list_told(m: usize, bad: *const u8, bad_len: usize,
         tab: *mut u32, tab_len: usize, used: *mut u8, used_len: usize,
         bytes: *mut u8, bytes_len: usize, marks: *mut u8, marks_len: usize,
         counts: *mut u32, counts_len: usize, fuse: *mut u64, page: *mut u8, page_len: usize,
         seen: *mut u8, seen_len: usize, order: *mut u32, order_len: usize) -> i64;
+    shr_collect_threshold, shr_collect_threshold_told(threshold: u64, m: usize,
+        bad: *const u8, bad_len: usize, tab: *mut u32, tab_len: usize,
+        used: *mut u8, used_len: usize, bytes: *mut u8, bytes_len: usize,
+        marks: *mut u8, marks_len: usize, counts: *mut u32, counts_len: usize,
+        fuse: *mut u64, page: *mut u8, page_len: usize, seen: *mut u8, seen_len: usize,
+        order: *mut u32, order_len: usize) -> i64;
     shr_encode(tab: *const u32, tab_len: usize, used: *const u8, used_len: usize,
         buffer: *mut u8, buffer_len: usize, seen: *mut u8, seen_len: usize) -> i64;
     shr_restore(file: *const u8, file_len: usize, tab: *mut u32, tab_len: usize,
@@ -62,6 +73,13 @@ entries! {
     shr_order_words() -> usize;
     shr_taken_bytes() -> usize;
     shr_checkpoint_bytes() -> usize;
+}
+
+/// The numbers that a refusal is told in: document 01's, or those of 02, M-101.
+#[derive(Clone, Copy, PartialEq, Eq, Debug)]
+pub enum Numbers {
+    Old,
+    New,
 }
 
 /// The six numbers of a device.
@@ -256,8 +274,27 @@ pub fn read(g: &Geometry, sector: usize, length: usize, u: &mut Unit, out: &mut 
         u.seen.as_mut_ptr(), u.seen.len())
 }
 
-pub fn write(g: &Geometry, bad: &[u8], sector: usize, len: usize, xs: &[u8], u: &mut Unit) -> i64 {
-    call!(shr_write, g, sector, len, xs.as_ptr(), xs.len(), bad.as_ptr(), bad.len(),
+/// The entry under its name for these numbers.
+macro_rules! named {
+    ($numbers:expr, $old:ident, $new:ident) => {
+        match $numbers {
+            Numbers::Old => $old,
+            Numbers::New => $new,
+        }
+    };
+}
+
+pub fn write(
+    g: &Geometry,
+    numbers: Numbers,
+    bad: &[u8],
+    sector: usize,
+    len: usize,
+    xs: &[u8],
+    u: &mut Unit,
+) -> i64 {
+    let f = named!(numbers, shr_write, shr_write_told);
+    call!(f, g, sector, len, xs.as_ptr(), xs.len(), bad.as_ptr(), bad.len(),
         u.tab.as_mut_ptr(), u.tab.len(), u.used.as_mut_ptr(), u.used.len(),
         u.bytes.as_mut_ptr(), u.bytes.len(), u.marks.as_mut_ptr(), u.marks.len(),
         u.counts.as_ptr(), u.counts.len(), &mut u.fuse,
@@ -276,16 +313,26 @@ macro_rules! collection {
     };
 }
 
-pub fn collect(g: &Geometry, bad: &[u8], u: &mut Unit) -> i64 {
-    collection!(shr_collect, g, bad, u)
+pub fn collect(g: &Geometry, numbers: Numbers, bad: &[u8], u: &mut Unit) -> i64 {
+    let f = named!(numbers, shr_collect, shr_collect_told);
+    collection!(f, g, bad, u)
 }
 
-pub fn collect_list(g: &Geometry, bad: &[u8], m: usize, u: &mut Unit) -> i64 {
-    collection!(shr_collect_list, g, bad, u, m)
+pub fn collect_list(g: &Geometry, numbers: Numbers, bad: &[u8], m: usize, u: &mut Unit) -> i64 {
+    let f = named!(numbers, shr_collect_list, shr_collect_list_told);
+    collection!(f, g, bad, u, m)
 }
 
-pub fn collect_threshold(g: &Geometry, bad: &[u8], threshold: u64, m: usize, u: &mut Unit) -> i64 {
-    collection!(shr_collect_threshold, g, bad, u, threshold, m)
+pub fn collect_threshold(
+    g: &Geometry,
+    numbers: Numbers,
+    bad: &[u8],
+    threshold: u64,
+    m: usize,
+    u: &mut Unit,
+) -> i64 {
+    let f = named!(numbers, shr_collect_threshold, shr_collect_threshold_told);
+    collection!(f, g, bad, u, threshold, m)
 }
 
 pub fn encode(g: &Geometry, u: &mut Unit, buffer: &mut [u8]) -> i64 {

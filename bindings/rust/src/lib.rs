@@ -165,8 +165,41 @@ pub struct Ftl<'a> {
     pub scratch: Scratch<'a>,
 }
 
-// In every call below each lent part is a borrow of its own, so its pointer is not null and aligned, and no two overlap. That is all the
-// library cannot find out by itself.
+// A write, and a collection with its own numbers, by a raw call of that name. In these and in every call below each lent part is a borrow of
+// its own, so its pointer is not null and aligned, and no two overlap. That is all the library cannot find out by itself.
+#[rustfmt::skip]
+macro_rules! writes {
+    ($unit:expr, $call:ident, $sector:expr, $data:expr) => {{
+        let (g, t, f, c, bad) = ($unit.geo, &mut $unit.tables, &mut $unit.flash, &mut $unit.scratch, $unit.bad);
+        answer(unsafe {
+            raw::$call(
+                g.n, g.p, g.s, g.w, g.e, g.limit,
+                $sector, $data.len(), $data.as_ptr(), $data.len(), bad.as_ptr(), bad.len(),
+                t.tab.as_mut_ptr(), t.tab.len(), t.used.as_mut_ptr(), t.used.len(),
+                f.bytes.as_mut_ptr(), f.bytes.len(), f.marks.as_mut_ptr(), f.marks.len(), f.counts.as_ptr(), f.counts.len(),
+                f.fuse, c.page.as_mut_ptr(), c.page.len(), c.seen.as_mut_ptr(), c.seen.len(),
+            )
+        })
+    }};
+}
+
+#[rustfmt::skip]
+macro_rules! collects {
+    ($unit:expr, $call:ident $(, $own:expr)*) => {{
+        let (g, t, f, c, bad) = ($unit.geo, &mut $unit.tables, &mut $unit.flash, &mut $unit.scratch, $unit.bad);
+        answer(unsafe {
+            raw::$call(
+                g.n, g.p, g.s, g.w, g.e, g.limit, $($own,)*
+                bad.as_ptr(), bad.len(),
+                t.tab.as_mut_ptr(), t.tab.len(), t.used.as_mut_ptr(), t.used.len(),
+                f.bytes.as_mut_ptr(), f.bytes.len(), f.marks.as_mut_ptr(), f.marks.len(),
+                f.counts.as_mut_ptr(), f.counts.len(), f.fuse,
+                c.page.as_mut_ptr(), c.page.len(), c.seen.as_mut_ptr(), c.seen.len(), c.order.as_mut_ptr(), c.order.len(),
+            )
+        })
+    }};
+}
+
 #[rustfmt::skip]
 impl Ftl<'_> {
     /// Erases every segment from 0 up, as far as the fuse reaches, and sets its count to 0. Answers 0.
@@ -206,63 +239,45 @@ impl Ftl<'_> {
     }
 
     /// Writes `data` at a sector, a byte position, inside one logical page. The page's other bytes stay; at its first write they become
-    /// zero (and not 255). Spends one page. Answers the length.
+    /// zero (and not 255). Spends one page. Answers the length. In the old numbers; see [`Ftl::write_told`].
     pub fn write(&mut self, sector: usize, data: &[u8]) -> Result<usize, Refusal> {
-        let (g, t, f, c) = (self.geo, &mut self.tables, &mut self.flash, &mut self.scratch);
-        answer(unsafe {
-            raw::shr_write(
-                g.n, g.p, g.s, g.w, g.e, g.limit,
-                sector, data.len(), data.as_ptr(), data.len(), self.bad.as_ptr(), self.bad.len(),
-                t.tab.as_mut_ptr(), t.tab.len(), t.used.as_mut_ptr(), t.used.len(),
-                f.bytes.as_mut_ptr(), f.bytes.len(), f.marks.as_mut_ptr(), f.marks.len(), f.counts.as_ptr(), f.counts.len(),
-                f.fuse, c.page.as_mut_ptr(), c.page.len(), c.seen.as_mut_ptr(), c.seen.len(),
-            )
-        })
+        writes!(self, shr_write, sector, data)
     }
 
-    /// One collection: the queued segment with the fewest valid pages is copied out and erased. Answers 0.
+    /// One collection: the queued segment with the fewest valid pages is copied out and erased. Answers 0. In the old numbers.
     pub fn collect(&mut self) -> Result<usize, Refusal> {
-        let (g, t, f, c) = (self.geo, &mut self.tables, &mut self.flash, &mut self.scratch);
-        answer(unsafe {
-            raw::shr_collect(
-                g.n, g.p, g.s, g.w, g.e, g.limit,
-                self.bad.as_ptr(), self.bad.len(),
-                t.tab.as_mut_ptr(), t.tab.len(), t.used.as_mut_ptr(), t.used.len(),
-                f.bytes.as_mut_ptr(), f.bytes.len(), f.marks.as_mut_ptr(), f.marks.len(),
-                f.counts.as_mut_ptr(), f.counts.len(), f.fuse,
-                c.page.as_mut_ptr(), c.page.len(), c.seen.as_mut_ptr(), c.seen.len(), c.order.as_mut_ptr(), c.order.len(),
-            )
-        })
+        collects!(self, shr_collect)
     }
 
     /// Collections until one is refused, the queue is empty, or m are counted. Answers the count, without the one that empties the queue.
+    /// In the old numbers.
     pub fn collect_list(&mut self, m: usize) -> Result<usize, Refusal> {
-        let (g, t, f, c) = (self.geo, &mut self.tables, &mut self.flash, &mut self.scratch);
-        answer(unsafe {
-            raw::shr_collect_list(
-                g.n, g.p, g.s, g.w, g.e, g.limit, m,
-                self.bad.as_ptr(), self.bad.len(),
-                t.tab.as_mut_ptr(), t.tab.len(), t.used.as_mut_ptr(), t.used.len(),
-                f.bytes.as_mut_ptr(), f.bytes.len(), f.marks.as_mut_ptr(), f.marks.len(),
-                f.counts.as_mut_ptr(), f.counts.len(), f.fuse,
-                c.page.as_mut_ptr(), c.page.len(), c.seen.as_mut_ptr(), c.seen.len(), c.order.as_mut_ptr(), c.order.len(),
-            )
-        })
+        collects!(self, shr_collect_list, m)
     }
 
-    /// The same when the free pages of all segments are at most the threshold; above it nothing runs.
+    /// The same when the free pages of all segments are at most the threshold; above it nothing runs. In the old numbers.
     pub fn collect_threshold(&mut self, threshold: u64, m: usize) -> Result<usize, Refusal> {
-        let (g, t, f, c) = (self.geo, &mut self.tables, &mut self.flash, &mut self.scratch);
-        answer(unsafe {
-            raw::shr_collect_threshold(
-                g.n, g.p, g.s, g.w, g.e, g.limit, threshold, m,
-                self.bad.as_ptr(), self.bad.len(),
-                t.tab.as_mut_ptr(), t.tab.len(), t.used.as_mut_ptr(), t.used.len(),
-                f.bytes.as_mut_ptr(), f.bytes.len(), f.marks.as_mut_ptr(), f.marks.len(),
-                f.counts.as_mut_ptr(), f.counts.len(), f.fuse,
-                c.page.as_mut_ptr(), c.page.len(), c.seen.as_mut_ptr(), c.seen.len(), c.order.as_mut_ptr(), c.order.len(),
-            )
-        })
+        collects!(self, shr_collect_threshold, threshold, m)
+    }
+
+    /// [`Ftl::write`] in the new numbers: [`Refusal::Full`] where it says [`Refusal::NoRoom`]. All else is the same.
+    pub fn write_told(&mut self, sector: usize, data: &[u8]) -> Result<usize, Refusal> {
+        writes!(self, shr_write_told, sector, data)
+    }
+
+    /// [`Ftl::collect`] in the new numbers: [`Refusal::Full`] or [`Refusal::CopyDevice`] where it says [`Refusal::NoRoom`].
+    pub fn collect_told(&mut self) -> Result<usize, Refusal> {
+        collects!(self, shr_collect_told)
+    }
+
+    /// [`Ftl::collect_list`] in the new numbers.
+    pub fn collect_list_told(&mut self, m: usize) -> Result<usize, Refusal> {
+        collects!(self, shr_collect_list_told, m)
+    }
+
+    /// [`Ftl::collect_threshold`] in the new numbers.
+    pub fn collect_threshold_told(&mut self, threshold: u64, m: usize) -> Result<usize, Refusal> {
+        collects!(self, shr_collect_threshold_told, threshold, m)
     }
 
     /// Writes the checkpoint of the tables into the buffer's front. Answers its length.

@@ -85,6 +85,26 @@ impl OwnedFtl {
         self.lend().collect_threshold(threshold, m)
     }
 
+    /// See [`Ftl::write_told`].
+    pub fn write_told(&mut self, sector: usize, data: &[u8]) -> Result<usize, Refusal> {
+        self.lend().write_told(sector, data)
+    }
+
+    /// See [`Ftl::collect_told`].
+    pub fn collect_told(&mut self) -> Result<usize, Refusal> {
+        self.lend().collect_told()
+    }
+
+    /// See [`Ftl::collect_list_told`].
+    pub fn collect_list_told(&mut self, m: usize) -> Result<usize, Refusal> {
+        self.lend().collect_list_told(m)
+    }
+
+    /// See [`Ftl::collect_threshold_told`].
+    pub fn collect_threshold_told(&mut self, threshold: u64, m: usize) -> Result<usize, Refusal> {
+        self.lend().collect_threshold_told(threshold, m)
+    }
+
     /// See [`Ftl::encode`].
     pub fn encode(&mut self, buffer: &mut [u8]) -> Result<usize, Refusal> {
         self.lend().encode(buffer)

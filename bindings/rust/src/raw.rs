@@ -42,6 +42,31 @@ extern "C" {
         bytes: *mut u8, bytes_len: usize, marks: *mut u8, marks_len: usize, counts: *mut u32, counts_len: usize,
         fuse: *mut u64, page: *mut u8, page_len: usize, seen: *mut u8, seen_len: usize, order: *mut u32, order_len: usize,
     ) -> i64;
+    pub fn shr_write_told(
+        n: usize, p: usize, s: usize, w: usize, e: usize, limit: usize,
+        sector: usize, len: usize, xs: *const u8, xs_len: usize, bad: *const u8, bad_len: usize,
+        tab: *mut u32, tab_len: usize, used: *mut u8, used_len: usize,
+        bytes: *mut u8, bytes_len: usize, marks: *mut u8, marks_len: usize, counts: *const u32, counts_len: usize,
+        fuse: *mut u64, page: *mut u8, page_len: usize, seen: *mut u8, seen_len: usize,
+    ) -> i64;
+    pub fn shr_collect_told(
+        n: usize, p: usize, s: usize, w: usize, e: usize, limit: usize,
+        bad: *const u8, bad_len: usize, tab: *mut u32, tab_len: usize, used: *mut u8, used_len: usize,
+        bytes: *mut u8, bytes_len: usize, marks: *mut u8, marks_len: usize, counts: *mut u32, counts_len: usize,
+        fuse: *mut u64, page: *mut u8, page_len: usize, seen: *mut u8, seen_len: usize, order: *mut u32, order_len: usize,
+    ) -> i64;
+    pub fn shr_collect_list_told(
+        n: usize, p: usize, s: usize, w: usize, e: usize, limit: usize, m: usize,
+        bad: *const u8, bad_len: usize, tab: *mut u32, tab_len: usize, used: *mut u8, used_len: usize,
+        bytes: *mut u8, bytes_len: usize, marks: *mut u8, marks_len: usize, counts: *mut u32, counts_len: usize,
+        fuse: *mut u64, page: *mut u8, page_len: usize, seen: *mut u8, seen_len: usize, order: *mut u32, order_len: usize,
+    ) -> i64;
+    pub fn shr_collect_threshold_told(
+        n: usize, p: usize, s: usize, w: usize, e: usize, limit: usize, threshold: u64, m: usize,
+        bad: *const u8, bad_len: usize, tab: *mut u32, tab_len: usize, used: *mut u8, used_len: usize,
+        bytes: *mut u8, bytes_len: usize, marks: *mut u8, marks_len: usize, counts: *mut u32, counts_len: usize,
+        fuse: *mut u64, page: *mut u8, page_len: usize, seen: *mut u8, seen_len: usize, order: *mut u32, order_len: usize,
+    ) -> i64;
     pub fn shr_encode(
         n: usize, p: usize, s: usize, w: usize, e: usize, limit: usize,
         tab: *const u32, tab_len: usize, used: *const u8, used_len: usize,

@@ -7,14 +7,18 @@ pub enum Refusal {
     /// 5. Write: the device refused the programming, since the page's mark or that of a higher page of its segment is set or the fuse is
     /// out, and the page found is spent. Collection: it refused the erase.
     Device,
-    /// 14. Write: no segment outside the bad list has a free page. Collection: a copy got 14 or 5.
+    /// 14, in the old numbers. Write: no segment outside the bad list has a free page. Collection: a copy found none, or the device refused it.
     NoRoom,
     /// 22. Geometry or a lent size is wrong, scratch is not zero, past the last logical page, or past the page's end.
     Wrong,
+    /// 28, in the new numbers. Write, and a copy of a collection: no segment outside the bad list has a free page.
+    Full,
     /// 61. Read of a logical page that was never written.
     Unmapped,
     /// 117. The tables are not sound.
     Unsound,
+    /// 121, in the new numbers. Collection: the device refused the programming of a copy, whose page is spent.
+    CopyDevice,
     /// 1 to 9. Why a file is not restored.
     Reason(Reason),
 }
@@ -55,14 +59,24 @@ const REASONS: [Reason; 9] = [
 ];
 
 impl Refusal {
+    /// The same refusal in the old numbers: 28 and 121 are read as 14.
+    pub fn as_old(self) -> Refusal {
+        match self {
+            Refusal::Full | Refusal::CopyDevice => Refusal::NoRoom,
+            other => other,
+        }
+    }
+
     /// The number, without its sign.
     pub fn number(self) -> i64 {
         match self {
             Refusal::Device => 5,
             Refusal::NoRoom => 14,
             Refusal::Wrong => 22,
+            Refusal::Full => 28,
             Refusal::Unmapped => 61,
             Refusal::Unsound => 117,
+            Refusal::CopyDevice => 121,
             Refusal::Reason(reason) => reason as i64 + 1,
         }
     }
@@ -74,8 +88,10 @@ pub(crate) fn answer(a: i64) -> Result<usize, Refusal> {
         -5 => Err(Refusal::Device),
         -14 => Err(Refusal::NoRoom),
         -22 => Err(Refusal::Wrong),
+        -28 => Err(Refusal::Full),
         -61 => Err(Refusal::Unmapped),
         -117 => Err(Refusal::Unsound),
+        -121 => Err(Refusal::CopyDevice),
         a if a >= 0 => Ok(a as usize),
         a => unreachable!("no answer of the library: {a}"),
     }
@@ -95,8 +111,10 @@ impl fmt::Display for Refusal {
             Refusal::Device => "the device refused",
             Refusal::NoRoom => "no room",
             Refusal::Wrong => "wrong geometry, size, sector or length",
+            Refusal::Full => "full: no free page outside the bad list",
             Refusal::Unmapped => "page never written",
             Refusal::Unsound => "tables not sound",
+            Refusal::CopyDevice => "the device refused a copy",
             Refusal::Reason(reason) => return write!(f, "not restored: {reason}"),
         };
         write!(f, "{text} ({})", self.number())
