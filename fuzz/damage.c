@@ -15,10 +15,7 @@ static bool done_well(const struct call *c, int entry) {
 }
 
 static bool collected(const struct call *c) {
-    bool lists = c->entry == COLLECT_LIST || (c->entry == COLLECT_THRESHOLD && !unchanged(&lent[TAB]));
-    if (c->entry != COLLECT && !lists) return false;
-    if (c->answer != -5 && c->answer != -14 && c->answer < 0) return false;
-    return !unchanged(&lent[TAB]);
+    return is_collection(c->entry) && !unchanged(&lent[TAB]);
 }
 
 static void flip(int slice, size_t at) {
@@ -56,6 +53,68 @@ static void damage_answer(struct call *c) {
     }
 }
 
+// One name's answer turned into another.
+static void turn(struct call *c, int numbers, int entry, int64_t from, int64_t to) {
+    if (c->numbers == numbers && c->entry == entry && c->answer == from) c->answer = to;
+}
+
+// No room, answered in the other choice's number or as if the device had refused.
+static void damage_room(struct call *c) {
+    switch (broken()) {
+    case 69: // write: not the answer that 01 and 02 give
+        turn(c, OLD, WRITE, -14, -28);
+        break;
+    case 70: // write_told: not the answer that 01 and 02 give
+        turn(c, NEW, WRITE, -28, -14);
+        break;
+    case 71: // collect: not a collection's answer
+        turn(c, OLD, COLLECT, -14, -28);
+        break;
+    case 72: // collect_told: not a collection's answer
+        turn(c, NEW, COLLECT, -28, -14);
+        break;
+    case 73: // collect_told: not the number of the refusal's cause
+        turn(c, NEW, COLLECT, -28, -121);
+        break;
+    case 74: // collect_list_told: not the number of the refusal's cause
+        turn(c, NEW, COLLECT_LIST, -28, -121);
+        break;
+    case 75: // collect_threshold_told: not the number of the refusal's cause
+        turn(c, NEW, COLLECT_THRESHOLD, -28, -121);
+        break;
+    }
+}
+
+// The device's refusal, answered in the other choice's number, as if room were missing, or an erase's as if it were a copy's.
+static void damage_device(struct call *c) {
+    switch (broken()) {
+    case 76: // write_told: not the answer that 01 and 02 give
+        turn(c, NEW, WRITE, -5, -121);
+        break;
+    case 77: // collect_list: not a collection's answer
+        turn(c, OLD, COLLECT_LIST, -14, -121);
+        break;
+    case 78: // collect_list_told: not a collection's answer
+        turn(c, NEW, COLLECT_LIST, -121, -14);
+        break;
+    case 79: // collect_told: not the number of the refusal's cause
+        turn(c, NEW, COLLECT, -121, -28);
+        break;
+    case 80: // collect_list_told: not the number of the refusal's cause
+        turn(c, NEW, COLLECT_LIST, -121, -28);
+        break;
+    case 81: // collect_threshold_told: not the number of the refusal's cause
+        turn(c, NEW, COLLECT_THRESHOLD, -121, -28);
+        break;
+    case 82: // collect_told: not the number of the refusal's cause
+        turn(c, NEW, COLLECT, -5, -121);
+        break;
+    case 83: // collect_threshold_told: not the number of the refusal's cause
+        turn(c, NEW, COLLECT_THRESHOLD, -5, -121);
+        break;
+    }
+}
+
 static void damage_lending(const struct call *c) {
     const struct slice *x = &lent[c->entry == FORMAT ? MARKS : TAB];
     const volatile uint8_t *end = x->at + x->len * x->elem;
@@ -65,6 +124,9 @@ static void damage_lending(const struct call *c) {
         break;
     case 7: // a call that changes nothing changed something
         if (c->answer == -14 && c->entry == WRITE) flip(FUSE, 0);
+        break;
+    case 84: // write_told: a call that changes nothing changed something
+        if (c->answer == -28 && c->entry == WRITE) flip(FUSE, 0);
         break;
     case 8: // a call that changes nothing changed something
         if (c->answer == -61 && lent[OUT].len) flip(OUT, 0);
@@ -367,27 +429,29 @@ static void damage_refused(struct call *c) {
         for (size_t i = 0; i < c->geo.n; i++)
             if (a.flags[i] && a.valid[i] < c->geo.p) a.valid[i]++;
         break;
-    case 62: // 5, and the victim is not drained
-        c->answer = -5;
+    case 62: // not the number of the refusal's cause
+        c->answer = refusal(c->numbers, ERASE);
         break;
-    case 63: // 14, and the victim is drained
-        c->answer = -14;
+    case 63: // not the number of the refusal's cause
+        if (c->answer == -5) c->answer = refusal(c->numbers, COPY_NO_ROOM);
         break;
-    case 64: // 5, and the erase has no cause
+    case 64: // an erase is refused without cause
         if (c->answer == -5) c->geo.limit = UINT32_MAX, lend_endless();
         break;
-    case 65: // 14, and there is room
+    case 65: // a copy finds no room, and there is room
         memset(lent[BAD].before, 0, lent[BAD].len);
         memset(lent[BAD].at, 0, lent[BAD].len);
         break;
-    case 66: // 14, and the programming has no cause
-        if (total_free(&c->geo, &b) > total_free(&c->geo, &a)) lend_endless();
+    case 66: // a copy is refused at the device without cause
+        if (c->answer != -5 && total_free(&c->geo, &b) > total_free(&c->geo, &a)) lend_endless();
         break;
     }
 }
 
 void damage(struct call *c) {
     damage_answer(c);
+    damage_room(c);
+    damage_device(c);
     damage_lending(c);
     if (broken() < 14 || wrong_size(c)) return;
     damage_read_and_file(c);

@@ -1,6 +1,6 @@
 #!/bin/sh
-# A test of the driver: small changes to copies of the originals and of the flash beneath them, one at a time; the driver must report a difference for
-# each.
+# A test of the drivers: small changes to copies of the originals, of the flash beneath them and of plain.rs, one at a time; compare, for plain.rs
+# edges, must report a difference for each.
 # Runs after build.sh and needs what that left in OUT (default target/oracle); takes a few minutes.
 #   mutants.sh [NAME...]    only these
 set -eu
@@ -21,21 +21,45 @@ build() {
         --extern originals="$work/liboriginals.rlib" -C link-arg="$lib"
 }
 
-# mutant NAME FILE OLD NEW: the first occurrence of the text OLD in FILE becomes NEW.
-mutant() {
-    [ -z "$only" ] || case " $only " in *" $1 "*) ;; *) return 0 ;; esac
-    rm -rf "$work" && cp -R "$out/originals" "$work"
-    OLD=$3 NEW=$4 perl -0pi -e 's/\Q$ENV{OLD}\E/$ENV{NEW}/ or die "text not found\n"' "$work/ftl/$2"
-    build
+asked() {
+    [ -z "$only" ] || case " $only " in *" $1 "*) ;; *) return 1 ;; esac
+}
+
+# change FILE OLD NEW: the first occurrence of the text OLD in FILE becomes NEW.
+change() {
+    OLD=$2 NEW=$3 perl -0pi -e 's/\Q$ENV{OLD}\E/$ENV{NEW}/ or die "text not found\n"' "$1"
+}
+
+# judge NAME LINE COMMAND...: the command must end with status 1 and print a line that begins with LINE.
+judge() {
+    name=$1; line=$2; shift 2
     status=0
-    "$work/compare" all --depth 4 --calls 100000 > "$work/out" 2>&1 || status=$?
-    if [ $status -eq 1 ]; then
+    "$@" > "$work/out" 2>&1 || status=$?
+    if [ $status -eq 1 ] && grep -q "^$line" "$work/out"; then
         found=$((found + 1))
-        echo "found: $1: $(sed -n 's/^shortened to/shortened to/p' "$work/out")"
+        echo "found: $name: $(grep "^$line" "$work/out")"
     else
         missed=$((missed + 1))
-        echo "MISSED: $1 (status $status)"
+        echo "MISSED: $name (status $status)"
     fi
+}
+
+# mutant NAME FILE OLD NEW: of an original.
+mutant() {
+    asked "$1" || return 0
+    rm -rf "$work" && cp -R "$out/originals" "$work"
+    change "$work/ftl/$2" "$3" "$4"
+    build
+    judge "$1" 'shortened to' "$work/compare" all --depth 4 --calls 100000
+}
+
+# plainly NAME OLD NEW: of plain.rs.
+plainly() {
+    asked "$1" || return 0
+    rm -rf "$work" && cp -R "$here/driver" "$work"
+    change "$work/plain.rs" "$2" "$3"
+    $rustc --crate-name edges "$work/edges.rs" -o "$work/edges" -C link-arg="$lib"
+    judge "$1" 'first difference' "$work/edges" runs --seed 1 --calls 100000
 }
 
 # Finding a page
@@ -78,6 +102,11 @@ mutant version-unread page_core.rs 'word(4) != CHECKPOINT_VERSION' 'false'
 mutant longer-file page_core.rs 'len() != expected as u64' 'len() < expected as u64'
 mutant pages-unread page_core.rs '|| pages_per_segment != pages as u64' ''
 mutant list-descends page_core.rs 'for lpn in 0..pgftl.map_entries() {' 'for lpn in (0..pgftl.map_entries()).rev() {'
+# The new numbers: 02, M-101
+plainly full-told-as-14 'Cause::CopyNoRoom, Numbers::New) => 28' 'Cause::CopyNoRoom, Numbers::New) => 14'
+plainly room-told-as-device 'Cause::NoRoom => Cause::CopyNoRoom' 'Cause::NoRoom => Cause::CopyDevice'
+plainly device-told-as-room 'Cause::Device => Cause::CopyDevice' 'Cause::Device => Cause::CopyNoRoom'
+plainly erase-told-as-copy '(Cause::Device | Cause::Erase, _) => 5' '(Cause::Erase, Numbers::New) => 121, (Cause::Device | Cause::Erase, _) => 5'
 
 echo "mutants: $found found, $missed missed"
 [ "$missed" -eq 0 ] && [ "$found" -gt 0 ]

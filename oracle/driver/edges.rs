@@ -1,7 +1,8 @@
 //! Compares the port with `plain.rs` after every call: the answer and all that was lent.
 //!
 //! It covers what has no counterpart in the Rust: wrong sizes, dirty scratch, unsound
-//! tables, wrong geometries, fuses, worn and marked flash, damaged checkpoints.
+//! tables, wrong geometries, fuses, worn and marked flash, damaged checkpoints. A write and a
+//! collection are also made in the new numbers, on a copy of what the old call was lent.
 //!
 //!     edges [part] [--seconds N] [--calls N] [--seed S] [--announce]
 //!
@@ -16,7 +17,7 @@ mod plain;
 #[path = "port.rs"]
 mod port;
 
-use plain::{Geometry, Lent, EMPTY, ENDLESS};
+use plain::{Answer, Geometry, Lent, Numbers, EMPTY, ENDLESS};
 use std::collections::BTreeMap;
 use std::process::ExitCode;
 use std::time::Instant;
@@ -237,6 +238,17 @@ impl Call {
         }
     }
 
+    /// The name under which the call answers in the new numbers, if it has one.
+    fn told(&self) -> Option<&'static str> {
+        match self {
+            Write(..) => Some("write_told"),
+            Collect => Some("collect_told"),
+            List(_) => Some("collect_list_told"),
+            Threshold(..) => Some("collect_threshold_told"),
+            _ => None,
+        }
+    }
+
     /// What the entry is lent.
     fn lent(&self) -> &'static [Field] {
         match self {
@@ -275,7 +287,7 @@ fn usual_calls(geo: &Geometry) -> Vec<Call> {
     ]
 }
 
-fn by_plain(geo: &Geometry, call: &Call, lent: &mut Lent) -> i64 {
+fn by_plain(geo: &Geometry, call: &Call, lent: &mut Lent) -> Answer {
     match *call {
         Format => plain::format(geo, lent),
         Open => plain::open(geo, lent),
@@ -289,6 +301,11 @@ fn by_plain(geo: &Geometry, call: &Call, lent: &mut Lent) -> i64 {
     }
 }
 
+/// An answer in 01's numbers.
+fn old(answer: Answer) -> i64 {
+    plain::number(Numbers::Old, answer)
+}
+
 fn port_geometry(geo: &Geometry) -> port::Geometry {
     port::Geometry {
         n: geo.n as usize,
@@ -297,6 +314,13 @@ fn port_geometry(geo: &Geometry) -> port::Geometry {
         w: geo.w as usize,
         e: geo.e as usize,
         limit: geo.limit as usize,
+    }
+}
+
+fn port_numbers(numbers: Numbers) -> port::Numbers {
+    match numbers {
+        Numbers::Old => port::Numbers::Old,
+        Numbers::New => port::Numbers::New,
     }
 }
 
@@ -317,8 +341,8 @@ macro_rules! move_unit {
 }
 
 /// The library's call on vectors that are lent as they are.
-fn ask_port(geo: &Geometry, call: &Call, lent: &mut Lent) -> i64 {
-    let g = &port_geometry(geo);
+fn ask_port(geo: &Geometry, numbers: Numbers, call: &Call, lent: &mut Lent) -> i64 {
+    let (g, numbers) = (&port_geometry(geo), port_numbers(numbers));
     let empty = port::Geometry { n: 0, p: 0, s: 0, w: 0, e: 0, limit: 0 };
     let mut unit = port::Unit::new(&empty);
     move_unit!(lent, unit);
@@ -328,11 +352,11 @@ fn ask_port(geo: &Geometry, call: &Call, lent: &mut Lent) -> i64 {
         Open => port::open(g, u),
         Read(sector, length) => port::read(g, sector as usize, length as usize, u, &mut lent.out),
         Write(sector, length) => {
-            port::write(g, bad, sector as usize, length as usize, &lent.data, u)
+            port::write(g, numbers, bad, sector as usize, length as usize, &lent.data, u)
         }
-        Collect => port::collect(g, bad, u),
-        List(m) => port::collect_list(g, bad, m as usize, u),
-        Threshold(t, m) => port::collect_threshold(g, bad, t, m as usize, u),
+        Collect => port::collect(g, numbers, bad, u),
+        List(m) => port::collect_list(g, numbers, bad, m as usize, u),
+        Threshold(t, m) => port::collect_threshold(g, numbers, bad, t, m as usize, u),
         Encode => port::encode(g, u, &mut lent.buffer),
         Restore => port::restore(g, &lent.file, u),
     };
@@ -384,12 +408,12 @@ struct Outcome {
     past: Option<Field>,
 }
 
-fn by_port(geo: &Geometry, call: &Call, lent: &Lent) -> Outcome {
+fn by_port(geo: &Geometry, numbers: Numbers, call: &Call, lent: &Lent) -> Outcome {
     let mut lent = lent.clone();
     for field in FIELDS {
         guard(&mut lent, field);
     }
-    let answer = ask_port(geo, call, &mut lent);
+    let answer = ask_port(geo, numbers, call, &mut lent);
     let past = FIELDS.into_iter().find(|&field| !guarded(&mut lent, field));
     Outcome { answer, lent, past }
 }
@@ -434,6 +458,31 @@ fn compare(geo: &Geometry, plain: &mut Outcome, port: &mut Outcome) -> Option<Di
     FIELDS.into_iter().find_map(|field| {
         compare_field(geo, field, slot(&mut plain.lent, field), slot(&mut port.lent, field))
     })
+}
+
+/// "Under the new one answers equal the old after 28 and 121 are read as 14."
+fn as_old(answer: i64) -> i64 {
+    match answer {
+        -28 | -121 => -14,
+        other => other,
+    }
+}
+
+/// The call in the new numbers beside the one in the old: it has plain's answer in these numbers,
+/// which reads as the old one, and leaves what that left.
+fn compare_told(
+    geo: &Geometry,
+    plain: Answer,
+    old: &mut Outcome,
+    told: &mut Outcome,
+) -> Option<Difference> {
+    let answer = plain::number(Numbers::New, plain);
+    if answer != told.answer {
+        return difference("answer in the new numbers", answer, told.answer);
+    }
+    told.answer = as_old(told.answer);
+    let found = compare(geo, old, told)?;
+    Some(Difference { field: format!("new numbers beside old: {}", found.field), ..found })
 }
 
 // ---------------------------------------------------------------- steps
@@ -546,8 +595,8 @@ fn encoded(geo: &Geometry, lent: &Lent) -> Vec<u8> {
     let mut lent = lent.clone();
     lent.buffer = vec![0; plain::checkpoint_bytes(geo)];
     match plain::encode(geo, &mut lent) {
-        length if length > 0 => lent.buffer,
-        _ => Vec::new(),
+        Ok(_) => lent.buffer,
+        Err(_) => Vec::new(),
     }
 }
 
@@ -581,20 +630,23 @@ fn apply(poke: &Poke, saved: &[Vec<u8>], geo: &mut Geometry, lent: &mut Lent) {
     }
 }
 
-/// Who is compared with the plain reading: the port, or a wrong program of the self-test.
+/// Who is compared with the plain reading: the port, or a program of the self-test that is wrong
+/// where it answers in these numbers.
 #[derive(Clone, Copy)]
 enum Side {
     Port,
-    Wrong(Fault),
+    Wrong(Numbers, Fault),
 }
 
-fn by_side(side: Side, geo: &Geometry, call: &Call, lent: &Lent) -> Outcome {
+fn by_side(side: Side, geo: &Geometry, numbers: Numbers, call: &Call, lent: &Lent) -> Outcome {
     match side {
-        Side::Port => by_port(geo, call, lent),
-        Side::Wrong(fault) => {
+        Side::Port => by_port(geo, numbers, call, lent),
+        Side::Wrong(spoilt, fault) => {
             let mut after = lent.clone();
-            let answer = by_plain(geo, call, &mut after);
-            let answer = fault(geo, call, lent, &mut after, answer);
+            let mut answer = plain::number(numbers, by_plain(geo, call, &mut after));
+            if numbers == spoilt {
+                answer = fault(geo, call, lent, &mut after, answer);
+            }
             Outcome { answer, lent: after, past: None }
         }
     }
@@ -612,23 +664,27 @@ fn unsound_after(geo: &Geometry, before: &[u32], after: &Outcome) -> Option<Diff
 const REMEMBERED: usize = 8;
 
 /// One step of both sides from one state; the plain answer, or the difference.
-fn take(side: Side, state: &mut State, step: &Step) -> Result<i64, Difference> {
+fn take(side: Side, state: &mut State, step: &Step) -> Result<Answer, Difference> {
     let (mut geo, mut lent) = (state.geo, state.lent.clone());
     for poke in &step.pokes {
         apply(poke, &state.saved, &mut geo, &mut lent);
     }
-    let mut port = by_side(side, &geo, &step.call, &lent);
+    let made = |numbers| by_side(side, &geo, numbers, &step.call, &lent);
+    let mut port = made(Numbers::Old);
+    let told = step.call.told().map(|_| made(Numbers::New));
     let before = lent.tab.clone();
     let answer = by_plain(&geo, &step.call, &mut lent);
-    let mut plain = Outcome { answer, lent, past: None };
-    let found = compare(&geo, &mut plain, &mut port);
-    if let Some(found) = found.or_else(|| unsound_after(&geo, &before, &plain)) {
+    let mut plain = Outcome { answer: old(answer), lent, past: None };
+    let found = compare(&geo, &mut plain, &mut port)
+        .or_else(|| compare_told(&geo, answer, &mut port, &mut told?))
+        .or_else(|| unsound_after(&geo, &before, &plain));
+    if let Some(found) = found {
         return Err(found);
     }
     if step.keep {
         state.lent = plain.lent;
-        if step.call == Encode && answer > 0 && state.saved.len() < REMEMBERED {
-            state.saved.push(state.lent.buffer[..answer as usize].to_vec());
+        if step.call == Encode && plain.answer > 0 && state.saved.len() < REMEMBERED {
+            state.saved.push(state.lent.buffer[..plain.answer as usize].to_vec());
         }
     }
     Ok(answer)
@@ -737,6 +793,8 @@ struct Driver {
     most: u64,
     announce: bool,
     calls: u64,
+    /// Those of them that were also made in the new numbers.
+    told: u64,
     tally: BTreeMap<(&'static str, String), u64>,
 }
 
@@ -750,6 +808,7 @@ impl Driver {
             most,
             announce: false,
             calls: 0,
+            told: 0,
             tally: BTreeMap::new(),
         }
     }
@@ -759,16 +818,24 @@ impl Driver {
         self.calls >= self.most || late
     }
 
-    fn count(&mut self, call: &Call, answer: i64) {
+    fn count(&mut self, call: &Call, answer: Answer) {
+        self.calls += 1;
+        self.met(call.name(), old(answer));
+        if let Some(told) = call.told() {
+            self.told += 1;
+            self.met(told, plain::number(Numbers::New, answer));
+        }
+    }
+
+    fn met(&mut self, entry: &'static str, answer: i64) {
         let class = match answer {
             i64::MIN..=0 => answer.to_string(),
             _ => "above 0".into(),
         };
-        self.calls += 1;
-        *self.tally.entry((call.name(), class)).or_insert(0) += 1;
+        *self.tally.entry((entry, class)).or_insert(0) += 1;
     }
 
-    /// One step from a place, compared; a kept one moves the place.
+    /// One step from a place, compared; a kept one moves the place. The answer is in 01's numbers.
     fn step(&mut self, place: &mut Place, step: Step) -> Going<i64> {
         if self.over() {
             return Err(Stop::Over);
@@ -782,7 +849,7 @@ impl Driver {
                 if step.keep {
                     place.steps.push(step);
                 }
-                Ok(answer)
+                Ok(old(answer))
             }
             Err(found) => {
                 let mut steps = place.steps.clone();
@@ -1163,7 +1230,7 @@ impl Driver {
             }
             let mut lent = place.state.lent.clone();
             lent.fuse = 1 << 40;
-            by_plain(&geo, &call, &mut lent);
+            let _ = by_plain(&geo, &call, &mut lent);
             let operations = (1 << 40) - lent.fuse;
             let fuses = (0..=operations + 1).chain([1 << 32, 1 << 63, ENDLESS - 1, ENDLESS]);
             for fuse in fuses {
@@ -1685,10 +1752,10 @@ fn queued(geo: &Geometry, lent: &Lent) -> usize {
     lent.tab.get(at_queued(geo)).map_or(0, |&length| length as usize)
 }
 
-/// The call once more from a changed beginning, with one part then put back.
+/// The call once more from a changed beginning, in 01's numbers, with one part then put back.
 fn again(geo: &Geometry, call: &Call, before: Lent, after: &mut Lent) -> i64 {
     *after = before;
-    by_plain(geo, call, after)
+    old(by_plain(geo, call, after))
 }
 
 const FAULTS: [(&str, Fault); 27] = [
@@ -1881,13 +1948,51 @@ const FAULTS: [(&str, Fault); 27] = [
     }),
 ];
 
+/// Programs that are wrong in the new numbers alone.
+const TOLD_FAULTS: [(&str, Fault); 8] = [
+    ("answers in the old numbers", |_, _, _, _, answer| as_old(answer)),
+    ("a full write told as 14", |_, call, _, _, answer| match call {
+        Write(..) => as_old(answer),
+        _ => answer,
+    }),
+    ("a copy without room told as the device's", |_, call, _, _, answer| {
+        if collects(call) && answer == -28 { -121 } else { answer }
+    }),
+    ("a copy that the device refuses told as 28", |_, _, _, _, answer| {
+        if answer == -121 { -28 } else { answer }
+    }),
+    ("a copy at fuse 0 told as 28", |_, _, _, after, answer| {
+        if answer == -121 && after.fuse == 0 { -28 } else { answer }
+    }),
+    ("a refused erase told as a copy's", |_, call, _, _, answer| {
+        if collects(call) && answer == -5 { -121 } else { answer }
+    }),
+    ("a threshold collection told in the old numbers", |_, call, _, _, answer| match call {
+        Threshold(..) => as_old(answer),
+        _ => answer,
+    }),
+    ("a write without room moves the allocation segment", |geo, call, _, after, answer| {
+        if matches!(call, Write(..)) && answer == -28 {
+            let alloc = &mut after.tab[at_alloc(geo)];
+            *alloc = (*alloc + 1) % geo.n as u32;
+        }
+        answer
+    }),
+];
+
+fn wrong_programs() -> Vec<(&'static str, Side)> {
+    let by = |numbers| move |(name, fault)| (name, Side::Wrong(numbers, fault));
+    let old = FAULTS.into_iter().map(by(Numbers::Old));
+    old.chain(TOLD_FAULTS.into_iter().map(by(Numbers::New))).collect()
+}
+
 // ---------------------------------------------------------------- self-test
 
 /// Each part of an outcome changed singly must be found, and named.
 fn perturbed(place: &Place, call: Call) -> Result<u64, String> {
     let geo = place.state.geo;
     let mut lent = place.state.lent.clone();
-    let answer = by_plain(&geo, &call, &mut lent);
+    let answer = old(by_plain(&geo, &call, &mut lent));
     let right = Outcome { answer, lent, past: None };
     let mut found = 0;
     let mut expect = |name: String, mut wrong: Outcome| {
@@ -1939,8 +2044,7 @@ fn guards_work(place: &Place) -> Result<u64, String> {
 }
 
 /// Random runs must find a wrong program, and its report must stay true when replayed.
-fn finds(name: &str, fault: Fault, seed: u64) -> Result<(u64, usize), String> {
-    let side = Side::Wrong(fault);
+fn finds(name: &str, side: Side, seed: u64) -> Result<(u64, usize), String> {
     let mut driver = Driver::new(side, seed, f64::INFINITY, 400_000);
     loop {
         match driver.run() {
@@ -2079,7 +2183,8 @@ fn no_fault(_: &Geometry, _: &Call, _: &Lent, _: &mut Lent, answer: i64) -> i64 
 }
 
 fn selftest(seed: u64) -> Result<(), String> {
-    let mut driver = Driver::new(Side::Wrong(no_fault), seed, f64::INFINITY, 50_000);
+    let right = Side::Wrong(Numbers::Old, no_fault);
+    let mut driver = Driver::new(right, seed, f64::INFINITY, 50_000);
     examples_hold(&mut driver)?;
     println!("E1 to E10 and the trace's calls hold of the plain reading");
     let mut changes = 0;
@@ -2099,8 +2204,8 @@ fn selftest(seed: u64) -> Result<(), String> {
         }
     }
     println!("{} calls of the plain reading beside itself, no difference", driver.calls);
-    for (name, fault) in FAULTS {
-        let (calls, steps) = finds(name, fault, seed)?;
+    for (name, side) in wrong_programs() {
+        let (calls, steps) = finds(name, side, seed)?;
         println!("found after {calls} calls, {steps} steps left: {name}");
     }
     Ok(())
@@ -2108,8 +2213,9 @@ fn selftest(seed: u64) -> Result<(), String> {
 
 // ---------------------------------------------------------------- main
 
-/// Every answer of document 01, by entry; runs of `all` must meet each, and no other.
-const ANSWERS: [(&str, &[&str]); 9] = [
+/// Every answer of document 01, and those of 02's new numbers, by entry; runs of `all` must meet
+/// each, and no other.
+const ANSWERS: [(&str, &[&str]); 13] = [
     ("format", &["0", "-22"]),
     ("open", &["0", "-22"]),
     ("read", &["0", "above 0", "-22", "-117", "-61"]),
@@ -2119,6 +2225,10 @@ const ANSWERS: [(&str, &[&str]); 9] = [
     ("collect_threshold", &["0", "above 0", "-22", "-117", "-14", "-5"]),
     ("encode", &["above 0", "-22", "-117"]),
     ("restore", &["0", "-22", "-1", "-2", "-3", "-4", "-5", "-6", "-7", "-8", "-9"]),
+    ("write_told", &["0", "above 0", "-22", "-117", "-28", "-5"]),
+    ("collect_told", &["0", "-22", "-117", "-28", "-121", "-5"]),
+    ("collect_list_told", &["0", "above 0", "-22", "-117", "-28", "-121", "-5"]),
+    ("collect_threshold_told", &["0", "above 0", "-22", "-117", "-28", "-121", "-5"]),
 ];
 
 struct Options {
@@ -2201,7 +2311,7 @@ impl Driver {
             let met: Vec<String> = (self.tally.iter().filter(|((name, _), _)| *name == entry))
                 .map(|((_, class), times)| format!("{class}: {times}"))
                 .collect();
-            println!("  {entry:18} {}", met.join("  "));
+            println!("  {entry:22} {}", met.join("  "));
             for class in classes.iter().filter(|_| all) {
                 if !self.tally.contains_key(&(entry, class.to_string())) {
                     println!("  NOT MET: {entry} {class}");
@@ -2248,7 +2358,9 @@ fn compare_part(options: &Options) -> bool {
     let stopped = driver.chosen(&options.part);
     let seconds = driver.started.elapsed().as_secs_f64();
     let met = driver.print_tally(all);
-    println!("seed {}, {} calls compared in {seconds:.1} s", options.seed, driver.calls);
+    let (calls, told) = (driver.calls, driver.told);
+    println!("{told} of the calls made in the new numbers too");
+    println!("seed {}, {calls} calls compared in {seconds:.1} s", options.seed);
     match stopped {
         Err(Stop::Found(report)) => {
             print_report(&report);

@@ -22,10 +22,10 @@ macro_rules! entry {
     };
 }
 
-/// Declares the entries; names that share a list of parameters each take that list.
+/// Declares the entries; a name behind the answer is one more entry with the same parameters.
 macro_rules! entries {
-    ($($($name:ident),+ $args:tt -> $ret:ty;)*) => {
-        $($(entry! { $name $args -> $ret })+)*
+    ($($name:ident $args:tt -> $ret:ty $(, $other:ident)?;)*) => {
+        $(entry! { $name $args -> $ret } $(entry! { $other $args -> $ret })?)*
     };
 }
 
@@ -36,28 +36,28 @@ entries! {
     shr_read(sector: usize, length: usize, tab: *const u32, tab_len: usize,
         used: *const u8, used_len: usize, bytes: *const u8, bytes_len: usize,
         out: *mut u8, out_len: usize, seen: *mut u8, seen_len: usize) -> i64;
-    shr_write, shr_write_told(sector: usize, len: usize, xs: *const u8, xs_len: usize,
+    shr_write(sector: usize, len: usize, xs: *const u8, xs_len: usize,
         bad: *const u8, bad_len: usize, tab: *mut u32, tab_len: usize,
         used: *mut u8, used_len: usize, bytes: *mut u8, bytes_len: usize,
         marks: *mut u8, marks_len: usize, counts: *const u32, counts_len: usize,
         fuse: *mut u64, page: *mut u8, page_len: usize,
-        seen: *mut u8, seen_len: usize) -> i64;
-    shr_collect, shr_collect_told(bad: *const u8, bad_len: usize, tab: *mut u32, tab_len: usize,
+        seen: *mut u8, seen_len: usize) -> i64, shr_write_told;
+    shr_collect(bad: *const u8, bad_len: usize, tab: *mut u32, tab_len: usize,
         used: *mut u8, used_len: usize, bytes: *mut u8, bytes_len: usize,
         marks: *mut u8, marks_len: usize, counts: *mut u32, counts_len: usize,
         fuse: *mut u64, page: *mut u8, page_len: usize, seen: *mut u8, seen_len: usize,
-        order: *mut u32, order_len: usize) -> i64;
-    shr_collect_list, shr_collect_list_told(m: usize, bad: *const u8, bad_len: usize,
+        order: *mut u32, order_len: usize) -> i64, shr_collect_told;
+    shr_collect_list(m: usize, bad: *const u8, bad_len: usize, tab: *mut u32, tab_len: usize,
+        used: *mut u8, used_len: usize, bytes: *mut u8, bytes_len: usize,
+        marks: *mut u8, marks_len: usize, counts: *mut u32, counts_len: usize,
+        fuse: *mut u64, page: *mut u8, page_len: usize, seen: *mut u8, seen_len: usize,
+        order: *mut u32, order_len: usize) -> i64, shr_collect_list_told;
+    shr_collect_threshold(threshold: u64, m: usize, bad: *const u8, bad_len: usize,
         tab: *mut u32, tab_len: usize, used: *mut u8, used_len: usize,
         bytes: *mut u8, bytes_len: usize, marks: *mut u8, marks_len: usize,
         counts: *mut u32, counts_len: usize, fuse: *mut u64, page: *mut u8, page_len: usize,
-        seen: *mut u8, seen_len: usize, order: *mut u32, order_len: usize) -> i64;
-    shr_collect_threshold, shr_collect_threshold_told(threshold: u64, m: usize,
-        bad: *const u8, bad_len: usize, tab: *mut u32, tab_len: usize,
-        used: *mut u8, used_len: usize, bytes: *mut u8, bytes_len: usize,
-        marks: *mut u8, marks_len: usize, counts: *mut u32, counts_len: usize,
-        fuse: *mut u64, page: *mut u8, page_len: usize, seen: *mut u8, seen_len: usize,
-        order: *mut u32, order_len: usize) -> i64;
+        seen: *mut u8, seen_len: usize, order: *mut u32, order_len: usize)
+        -> i64, shr_collect_threshold_told;
     shr_encode(tab: *const u32, tab_len: usize, used: *const u8, used_len: usize,
         buffer: *mut u8, buffer_len: usize, seen: *mut u8, seen_len: usize) -> i64;
     shr_restore(file: *const u8, file_len: usize, tab: *mut u32, tab_len: usize,

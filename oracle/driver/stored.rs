@@ -13,7 +13,7 @@ mod plain;
 mod rng;
 
 use originals::{Original, Shape};
-use plain::{Geometry, Lent, EMPTY, ENDLESS};
+use plain::{Answer, Geometry, Lent, Numbers, EMPTY, ENDLESS};
 use rng::Rng;
 use std::collections::BTreeMap;
 
@@ -55,8 +55,11 @@ enum Call {
     Restore,
 }
 
-const NAMES: [&str; 9] =
-    ["format", "open", "read", "write", "collect", "collect_list", "collect_threshold", "encode", "restore"];
+/// The nine, and then the four that have new numbers, in these.
+const NAMES: [&str; 13] = [
+    "format", "open", "read", "write", "collect", "collect_list", "collect_threshold", "encode", "restore",
+    "write_told", "collect_told", "collect_list_told", "collect_threshold_told",
+];
 
 impl Call {
     /// The call's place among the nine, and its two numbers.
@@ -71,6 +74,16 @@ impl Call {
             Call::Threshold(threshold, m) => (6, threshold, m),
             Call::Encode => (7, 0, 0),
             Call::Restore => (8, 0, 0),
+        }
+    }
+
+    /// The call's place in `NAMES`, by the numbers that it answers in.
+    fn kind(self, numbers: Numbers) -> usize {
+        match self {
+            Call::Write(..) | Call::Collect | Call::List(_) | Call::Threshold(..) if numbers == Numbers::New => {
+                self.parts().0 + 6
+            }
+            _ => self.parts().0,
         }
     }
 
@@ -119,6 +132,8 @@ struct Case<'a> {
     room: Vec<Vec<u32>>,
     lens: [usize; 11],
     fuse: u64,
+    /// What the calls answer in, where they have the choice.
+    numbers: Numbers,
     /// The originals, while their state is that of what is lent.
     rust: Option<Original>,
 }
@@ -146,7 +161,7 @@ impl<'a> Case<'a> {
         }
         book.cases += 1;
         let room = ROOM.iter().map(|&k| vec![0; k]).collect();
-        Case { book, geo, room, lens: [0; 11], fuse: ENDLESS, rust: None }
+        Case { book, geo, room, lens: [0; 11], fuse: ENDLESS, numbers: Numbers::Old, rust: None }
     }
 
     /// Zeroed memory lent with the lengths given.
@@ -263,7 +278,7 @@ impl<'a> Case<'a> {
     }
 
     /// The call by plain.rs. The buffer is that one of its four which the call is lent.
-    fn plainly(&mut self, call: Call) -> i64 {
+    fn plainly(&mut self, call: Call) -> Answer {
         let (geo, mut lent) = (self.geo, self.to_lent());
         let answer = match call {
             Call::Format => plain::format(&geo, &mut lent),
@@ -314,7 +329,7 @@ impl<'a> Case<'a> {
         buffer && call.lends().iter().all(|part| fits(part) && clean(part))
     }
 
-    /// The call by the originals; a read's room and an encoding's are compared here.
+    /// The call by the originals, which know the old numbers only; a read's room and an encoding's are compared here.
     fn by_the_rust(&mut self, call: Call, mut before: Vec<u8>) -> i64 {
         let after = self.bytes(Buffer);
         let rust = self.rust.as_mut().expect("the originals");
@@ -344,15 +359,16 @@ impl<'a> Case<'a> {
     fn call(&mut self, call: Call) -> i64 {
         let before = self.bytes(Buffer);
         let beside = self.rust.is_some() && self.for_the_rust(call);
-        let answer = self.plainly(call);
+        let plainly = self.plainly(call);
+        let (answer, old) = (plain::number(self.numbers, plainly), plain::number(Numbers::Old, plainly));
         assert!(beside || self.rust.is_none() || answer == -22, "a call that only plain.rs makes");
         if beside {
             let theirs = self.by_the_rust(call, before);
-            assert!(theirs == answer, "{call:?}: the Rust answers {theirs}, plain.rs {answer}");
+            assert!(theirs == old, "{call:?}: the Rust answers {theirs}, plain.rs {old}");
             self.same_state();
             self.book.beside += !matches!(call, Call::Read(..) | Call::Format) as usize;
         }
-        let ((kind, a, b), digest) = (call.parts(), self.digest());
+        let ((_, a, b), kind, digest) = (call.parts(), call.kind(self.numbers), self.digest());
         self.put(&[4 + kind as u64, a, b, (answer < 0) as u64, answer.unsigned_abs(), digest as u64]);
         self.book.calls += 1;
         *self.book.answers.entry((kind, answer.min(0))).or_default() += 1;
@@ -1045,11 +1061,112 @@ fn large(book: &mut Book, rng: &mut Rng) {
     }
 }
 
+// ---------------------------------------------------------------- in the new numbers
+
+/// The first segment that is not bad is full and queued, with p - 1 pages to copy.
+fn to_copy<'a>(book: &'a mut Book, geo: Geometry, bad: &[u8]) -> Case<'a> {
+    let mut case = Case::fresh(book, geo, bad);
+    case.numbers = Numbers::New;
+    case.pages((0..geo.p).map(|k| k % (geo.p - 1)));
+    case
+}
+
+/// A write and a collection without room: all segments but one are bad.
+fn no_room(book: &mut Book, geo: Geometry, call: Call) {
+    for good in [0, geo.n - 1] {
+        let bad: Vec<u8> = (0..geo.n).map(|g| (g != good) as u8).collect();
+        let mut case = to_copy(book, geo, &bad);
+        assert!(case.page(0, 1) == -28 && case.call(call) == -28, "a full device");
+        case.call(call);
+        case.end();
+    }
+}
+
+/// Copies and the erase at every fuse, copies to marked pages, an erase at the limit.
+fn refused_copies(book: &mut Book, rng: &mut Rng, geo: Geometry, call: Call) {
+    for fuse in 0..=geo.p {
+        let mut case = to_copy(book, geo, &[]);
+        case.set_fuse(fuse);
+        let expected = [0, -5].get((geo.p - fuse) as usize).copied().unwrap_or(-121);
+        assert!(case.call(call) == expected && case.page(0, 2) == -5, "a fuse");
+        case.end();
+    }
+    let (mut case, k) = (to_copy(book, geo, &[]), rng.below(geo.p as usize));
+    (1..geo.n as usize).for_each(|g| case.poke(Marks, g * geo.p as usize + k, 7));
+    assert!(case.call(call) == -121, "a marked page, or one below it");
+    case.page(0, 3);
+    case.end();
+    let mut case = to_copy(book, Geometry { limit: 0, ..geo }, &[]);
+    assert!(case.call(call) == -5, "an erase at the limit");
+    case.end();
+}
+
+/// Two segments in the queue, and one pass.
+fn counted(book: &mut Book, geo: Geometry, call: Call) {
+    let mut case = Case::fresh(book, geo, &[]);
+    case.numbers = Numbers::New;
+    case.pages((0..2 * geo.p).map(|_| 0));
+    assert!(case.call(call) == i64::from(call != Call::Collect), "a pass");
+    case.end();
+}
+
+/// 28 and 121, and beside them 5 of an erase and of a write, and counts; on devices of two, three and four pages.
+fn told_apart(book: &mut Book, rng: &mut Rng) {
+    let [_, two, three, _, four] = shapes();
+    for geo in [two, three, four] {
+        for call in [Call::Collect, Call::List(2), Call::Threshold(64, 3)] {
+            no_room(book, geo, call);
+            refused_copies(book, rng, geo, call);
+        }
+        for call in [Call::Collect, Call::List(1), Call::Threshold(64, 1)] {
+            counted(book, geo, call);
+        }
+    }
+}
+
+/// The tests that come first: 22 and 117 stay.
+fn told_tests(book: &mut Book, _: &mut Rng) {
+    for geo in shapes() {
+        let mut case = Case::fresh(book, geo, &[]);
+        case.numbers = Numbers::New;
+        case.page(0, 1);
+        case.call(Call::Write(geo.e * geo.s, 1));
+        case.call(Call::Write(0, geo.s + 1));
+        let four = [Call::Write(0, 1), Call::Collect, Call::List(1), Call::Threshold(64, 1)];
+        let all = |case: &mut Case, answer| assert!(four.iter().all(|&call| case.call(call) == answer), "{answer}");
+        case.length(Page, geo.s as usize + 1);
+        all(&mut case, -22);
+        case.length(Page, geo.s as usize);
+        case.poke(Tab, case.at(5, 0), geo.n as u32);
+        all(&mut case, -117);
+        case.length(Bad, geo.n as usize - 1);
+        all(&mut case, -22);
+        case.end();
+    }
+}
+
+/// Random runs in old and new numbers by turns, with fuses set now and then.
+fn told_runs(book: &mut Book, rng: &mut Rng) {
+    for _ in 0..12 {
+        let geo = random_geometry(rng);
+        let bad = random_bad(rng, geo.n);
+        let mut case = Case::fresh(book, geo, &bad);
+        for _ in 0..rng.range(6, 16) {
+            if rng.chance(3) {
+                case.set_fuse(rng.pick(&[0, 1, 2, 3, 5, ENDLESS]));
+            }
+            case.numbers = rng.pick(&[Numbers::New, Numbers::New, Numbers::Old]);
+            random_call(&mut case, rng);
+        }
+        case.end();
+    }
+}
+
 // ---------------------------------------------------------------- the book
 
 type Kind = (&'static str, fn(&mut Book, &mut Rng));
 
-const KINDS: [Kind; 21] = [
+const KINDS: [Kind; 24] = [
     ("examples", examples),
     ("two more of them", more_examples),
     ("geometries", geometries),
@@ -1071,10 +1188,13 @@ const KINDS: [Kind; 21] = [
     ("runs", runs),
     ("large", large),
     ("orders", orders),
+    ("told apart", told_apart),
+    ("told tests", told_tests),
+    ("told runs", told_runs),
 ];
 
 /// What each call must have answered at least so often: 0 stands for success.
-const OWED: [&[i64]; 9] = [
+const OWED: [&[i64]; 13] = [
     &[0, -22],
     &[0, -22],
     &[0, -22, -61, -117],
@@ -1084,6 +1204,10 @@ const OWED: [&[i64]; 9] = [
     &[0, -22, -117, -14, -5],
     &[0, -22, -117],
     &[0, -22, -1, -2, -3, -4, -5, -6, -7, -8, -9],
+    &[0, -22, -117, -28, -5],
+    &[0, -22, -117, -28, -121, -5],
+    &[0, -22, -117, -28, -121, -5],
+    &[0, -22, -117, -28, -121, -5],
 ];
 const OFTEN: usize = 5;
 
@@ -1093,7 +1217,7 @@ fn told(book: &Book) -> bool {
     for (kind, owed) in OWED.iter().enumerate() {
         let count = |answer: &i64| book.answers.get(&(kind, *answer)).copied().unwrap_or(0);
         let row: Vec<String> = owed.iter().map(|answer| format!("{answer}: {}", count(answer))).collect();
-        println!("{:18}{}", NAMES[kind], row.join("  "));
+        println!("{:23}{}", NAMES[kind], row.join("  "));
         enough &= owed.iter().all(|answer| count(answer) >= OFTEN);
     }
     let known = |(kind, answer): &(usize, i64)| OWED[*kind].contains(answer);

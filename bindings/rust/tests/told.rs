@@ -63,7 +63,8 @@ fn the_rest_is_as_it_was() {
     let done = after(A, &[], &[0, 0]);
     let mut unsound = after(A, &[], &[0, 0]);
     unsound.tab[0] = 9;
-    let wrong = OwnedFtl { geo: Geometry { p: 0, ..A }, ..done.clone() };
+    let mut wrong = done.clone();
+    wrong.geo.p = 0;
     for call in COLLECTIONS {
         assert_eq!(beside(&worn, call), Err(Refusal::Device));
         assert_eq!(beside(&done, call), Ok(0));

@@ -1,6 +1,6 @@
--- The demands, of the functions that run. Each premise `Promise …` is the `ensures` of a public function in crates/ftl/src/lib.rt, letter for letter, or
--- follows from it by `format-runs` to `restore-runs`. None of these functions has a `requires`, so nothing is asked of what was lent to them. The second
--- demand is the `ensures` themselves, each function equal to its definition, and the runs beside the Rust.
+-- The demands, of the functions that run. Each premise `PromiseIn N …` is the `ensures` of `write` or a collection in crates/ftl/src/lib.rt, letter for
+-- letter; for the other calls N is `Old`, and it follows from their `ensures` by `format-runs` to `restore-runs`. None of these functions has a
+-- `requires`. The second demand is the `ensures` themselves, in the old numbers, each function equal to its definition, and the runs beside the Rust.
 use Prim.Native.Nat.{ℕ, suc, _≤_}
 use mathlib.Core.Path.{_≡_, refl, sym, ap, _∙_, subst}
 use mathlib.Core.Logic.{_⊎_, inl, inr, _≢_}
@@ -36,7 +36,7 @@ use Rattle.demands.specs.Unit.{Collects, Shows, Ever, FromOpening}
 use Rattle.demands.proofs.Beyond.{read-beyond, encode-beyond}
 use Rattle.demands.proofs.Seen.{collected-content, read-behind-collection}
 use Rattle.demands.proofs.Unchanged.{scratch-back}
-use Rattle.demands.proofs.Signs.{signs, reasons}
+use Rattle.demands.proofs.Signs.{signs, reasons, same-below, unlike-count}
 use Rattle.demands.proofs.Exactly.{answers-of}
 use Rattle.demands.proofs.Leaves.{leaves}
 use Rattle.demands.proofs.Kept.{unit-restores}
@@ -45,40 +45,40 @@ use Rattle.demands.proofs.Kept.{unit-restores}
 
 -- `write` and the collections are lent the whole recorder: their promises are those of `run` as they stand. `format` is lent no tables, `open`,
 -- `encode` and `restore` no flash, `read` its bytes alone: over the whole recorder, what was not lent stays.
-beside : {N : Numbers} (h : Lent → Lent) {o o′ : Outcome} {x : Lent} {z : ℤ} → o′ ≡ over h o → PromiseIn N o x z → PromiseIn N o′ (h x) z
-beside {N} h e P =
+beside : (h : Lent → Lent) {o o′ : Outcome} {x : Lent} {z : ℤ} → o′ ≡ over h o → Promise o x z → Promise o′ (h x) z
+beside h e P =
     record {
       left-is = ap h (P .left-is) ∙ sym (ap (λ (o : Outcome). o .left) e);
-      answer-is = P .answer-is ∙ sym (ap (λ (o : Outcome). number N (o .answer)) e);
+      answer-is = P .answer-is ∙ sym (ap (λ (o : Outcome). number Old (o .answer)) e);
     }
 
 module _ (G : Geometry) (bad : List ℕ) where
-  pub format-runs : {N : Numbers} (w u : List ℕ) (f f′ : Flash) (z : ℤ)
-      → PromiseIn N (formatting G (lent (recorder [] [] f) [] [])) (lent (recorder [] [] f′) [] []) z
-      → PromiseIn N (run G bad Format (recorder w u f)) (lent (recorder w u f′) [] []) z
+  pub format-runs : (w u : List ℕ) (f f′ : Flash) (z : ℤ)
+      → Promise (formatting G (lent (recorder [] [] f) [] [])) (lent (recorder [] [] f′) [] []) z
+      → Promise (run G bad Format (recorder w u f)) (lent (recorder w u f′) [] []) z
   format-runs w u f f′ z P = beside (withTables w u) (formatting-alone G w u (lent (recorder [] [] f) [] [])) P
 
-  pub open-runs : {N : Numbers} (f : Flash) (w u w′ u′ : List ℕ) (z : ℤ)
-      → PromiseIn N (opening G (lent (recorder w u noFlash) [] [])) (lent (recorder w′ u′ noFlash) [] []) z
-      → PromiseIn N (run G bad Open (recorder w u f)) (lent (recorder w′ u′ f) [] []) z
+  pub open-runs : (f : Flash) (w u w′ u′ : List ℕ) (z : ℤ)
+      → Promise (opening G (lent (recorder w u noFlash) [] [])) (lent (recorder w′ u′ noFlash) [] []) z
+      → Promise (run G bad Open (recorder w u f)) (lent (recorder w′ u′ f) [] []) z
   open-runs f w u w′ u′ z P = beside (withFlash f) (opening-alone G f (lent (recorder w u noFlash) [] [])) P
 
-  pub read-runs : {N : Numbers} (f : Flash) (sector len : ℕ) (w u b b′ : List ℕ) (s s′ : List (List ℕ)) (z : ℤ)
-      → PromiseIn N (read G sector len (lent (recorder w u (flash (f .bytes) [] [] 0)) b s)) (lent (recorder w u (flash (f .bytes) [] [] 0)) b′ s′) z
-      → PromiseIn N (run G bad (Read sector len b s) (recorder w u f)) (lent (recorder w u f) b′ s′) z
+  pub read-runs : (f : Flash) (sector len : ℕ) (w u b b′ : List ℕ) (s s′ : List (List ℕ)) (z : ℤ)
+      → Promise (read G sector len (lent (recorder w u (flash (f .bytes) [] [] 0)) b s)) (lent (recorder w u (flash (f .bytes) [] [] 0)) b′ s′) z
+      → Promise (run G bad (Read sector len b s) (recorder w u f)) (lent (recorder w u f) b′ s′) z
   read-runs f sector len w u b b′ s s′ z P = beside (withFlash f) (read-alone G f sector len w u b s) P
 
-  pub encode-runs : {N : Numbers} (f : Flash) (w u b b′ : List ℕ) (s s′ : List (List ℕ)) (z : ℤ)
-      → PromiseIn N (encoding G (lent (recorder w u noFlash) b s)) (lent (recorder w u noFlash) b′ s′) z
-      → PromiseIn N (run G bad (Encode b s) (recorder w u f)) (lent (recorder w u f) b′ s′) z
+  pub encode-runs : (f : Flash) (w u b b′ : List ℕ) (s s′ : List (List ℕ)) (z : ℤ)
+      → Promise (encoding G (lent (recorder w u noFlash) b s)) (lent (recorder w u noFlash) b′ s′) z
+      → Promise (run G bad (Encode b s) (recorder w u f)) (lent (recorder w u f) b′ s′) z
   encode-runs f w u b b′ s s′ z P = beside (withFlash f) (encoding-alone G f (lent (recorder w u noFlash) b s)) P
 
-  pub restore-runs : {N : Numbers} (f : Flash) (b w u w′ u′ : List ℕ) (s s′ : List (List ℕ)) (z : ℤ)
-      → PromiseIn N (restoring G b (lent (recorder w u noFlash) [] s)) (lent (recorder w′ u′ noFlash) [] s′) z
-      → PromiseIn N (run G bad (Restore b s) (recorder w u f)) (lent (recorder w′ u′ f) [] s′) z
+  pub restore-runs : (f : Flash) (b w u w′ u′ : List ℕ) (s s′ : List (List ℕ)) (z : ℤ)
+      → Promise (restoring G b (lent (recorder w u noFlash) [] s)) (lent (recorder w′ u′ noFlash) [] s′) z
+      → Promise (run G bad (Restore b s) (recorder w u f)) (lent (recorder w′ u′ f) [] s′) z
   restore-runs f b w u w′ u′ s s′ z P = beside (withFlash f) (restoring-alone G f b (lent (recorder w u noFlash) [] s)) P
 
-  -- ---- the first demand: each answer is one of 01's numbers, given exactly when 01 says, and a refusal leaves what 01 names
+  -- ---- the first demand: each answer is one of 01's or 02's numbers, given exactly when they say, and a refusal leaves what they name
 
   -- "bytes moved, or a refusal number negated": 0 or above, or below 0
   abbrev Signed : Numbers → Answer → ℤ → Type 0
@@ -107,10 +107,6 @@ module _ (G : Geometry) (bad : List ℕ) where
     pub given : When G bad c r (Refused cause)
     pub leaves-it : Leaves G bad c r cause (outcome x (Refused cause) (run G bad c r .ops))
 
-  abbrev is-below : ℤ → ℕ → Type 0
-  is-below (pos m) j = ⊥
-  is-below (negsuc k) j = k ≡ j
-
   pub refusal-leaves : {N : Numbers} (c : Call) (r : Recorder) {x : Lent} (below : ℕ) → PromiseIn N (run G bad c r) x (negsuc below) → Refusal N c r x below
   refusal-leaves {N} c r {x} below P = go (sign-of c r P)
     where
@@ -129,8 +125,8 @@ module _ (G : Geometry) (bad : List ℕ) where
           }
 
       go : Signed N (run G bad c r .answer) (negsuc below) → Refusal N c r x below
-      go (inl h) = absurd (subst (λ z. is-below z below) (h .1) refl)
-      go (inr h) = at-cause (h .0) (subst (λ z. is-below z below) (h .1) refl)
+      go (inl h) = unlike-count (h .0 .moved) below (sym (h .1))
+      go (inr h) = at-cause (h .0) (same-below (sym (h .1)))
 
   -- scratch comes back on every input, whatever the answer
   pub scratch-stays : {N : Numbers} (c : Call) (r : Recorder) {x : Lent} {z : ℤ} → PromiseIn N (run G bad c r) x z → x .scratch ≡ lentTo c r .scratch
@@ -179,10 +175,6 @@ module _ (G : Geometry) (bad : List ℕ) where
 
 -- ---- the third demand, second half
 
-abbrev is-count : ℤ → Type 0
-is-count (pos m) = Unit {0}
-is-count (negsuc k) = ⊥
-
 abbrev count-of : ℤ → ℕ
 count-of (pos m) = m
 count-of (negsuc k) = k
@@ -191,8 +183,8 @@ count-of (negsuc k) = k
 encode-moved : (G : Geometry) (x : Lent) (m : ℕ) → pos m ≡ number Old (encoding G x .answer) → encoding G x .answer ≡ Moved m
 unfolding encoding
 encode-moved G x m =
-    guarded-by (λ (o : Outcome). pos m ≡ number Old (o .answer) → o .answer ≡ Moved m) _ _ _ _ x _ (λ e. absurd (subst is-count e tt))
-    (λ e. absurd (subst is-count e tt))
+    guarded-by (λ (o : Outcome). pos m ≡ number Old (o .answer) → o .answer ≡ Moved m) _ _ _ _ x _ (unlike-count m 21)
+    (unlike-count m 116)
     (λ _ _ _ _ e. ap (λ (z : ℤ). Moved (count-of z)) (sym e))
 
 -- `encode` wrote the file b′ at a recorder; `back`: whatever has happened to a recorder r since, as h says, the file gives everything back. Then

@@ -16,8 +16,8 @@ use Rattle.model.specs.declared.Cause.{Cause}
 use Rattle.model.specs.declared.Answer.the-variants.{Moved, Refused}
 use Rattle.model.specs.declared.Cause.the-variants.{Wrong, Unsound, Unmapped, NoRoom, Device, CopyNoRoom, CopyDevice, Erase, Reason}
 use Rattle.model.specs.Numbers.{Good, empty, logicalPage, offset}
-use Rattle.model.specs.Causes.{Kind, in-tests, in-read, in-write, in-copy, in-erase, in-file, kindOf}
-use Rattle.model.specs.Tables.{at, wordOf}
+use Rattle.model.specs.Causes.{Kind, in-tests, in-read, in-write, in-copy, in-erase, in-file, kindOf, ByCopy}
+use Rattle.model.specs.Tables.{Tables, at, wordOf}
 use Rattle.model.specs.Sound.{Mapped}
 use Rattle.model.specs.Device.{Flash, Op, State, state, Out, out, goOn, mayErase, finish}
 use Rattle.model.specs.declared.Found.the-variants.{Nothing}
@@ -33,8 +33,8 @@ use Rattle.model.proofs.Slots.{same?, less?}
 use Rattle.model.proofs.Guard.{guarded-passes, unless-passes}
 use Rattle.model.proofs.Refusals.{guarded-sizes, guarded-sound, guarded-page, guarded-overrun}
 use Rattle.model.proofs.Entry.{Fits}
-use Rattle.model.proofs.Collect.{Kept, collected}
-use Rattle.demands.proofs.Unchanged.{formats-all, in-pass, Pass, collect-pass, more-pass, threshold-pass}
+use Rattle.model.proofs.Collect.{W, Kept, collected}
+use Rattle.demands.proofs.Unchanged.{formats-all, pass-kind, Pass, collect-pass, more-pass, threshold-pass}
 use Rattle.demands.proofs.Passed.{guarded-ends, unless-ends}
 use Rattle.model.proofs.Find.{Full, Free, found}
 use Rattle.model.proofs.Turns.{write-none, write-spent, write-stored, collect-none, threshold-above, threshold-below, finish-done, finish-refused}
@@ -42,13 +42,21 @@ use Rattle.model.proofs.Taken.{taken-sound, victim-flag, victim-full, victim-se
 use Rattle.demands.proofs.Ends.{Stored, WriteEnds, write-ends, DrainEnd, DrainEnds, drain-ends}
 use Rattle.demands.proofs.Tested.{clash, not-flips, flips-not, sizes, sizes-exactly, soundTest, sound-exactly, pageTest, overrunTest, Inside, within-exactly, deed, run-is, fits-of}
 use Rattle.demands.specs.Given.{Exactly, tab, stateIn, lentTo, SizesRight, TablesSound, Within, Passed}
-use Rattle.demands.specs.When.{NoneFree, Copies, CopyFails, AllCopied, PassWhen, Passes, LastPass, Counts, PassFails, ListWhen, ThresholdWhen, DeedWhen, WrongWhen, UnsoundWhen, When, Finds, none, copy, start, pass}
+use Rattle.demands.specs.When.{NoneFree, CopyWhy, Copies, CopyFails, AllCopied, PassWhen, Passes, LastPass, Counts, PassFails, ListWhen, ThresholdWhen, DeedWhen, WrongWhen, UnsoundWhen, When, Finds, none, copy, start, pass}
 use Rattle.demands.specs.Left.{Spent}
 use Rattle.demands.proofs.Walk.{write-by}
 
 not-true : (b : Bool) → (b ≡ true → ⊥) → b ≡ false
 not-true true n = absurd (n refl)
 not-true false n = refl
+
+-- sound tables with no free page outside the bad list
+nothing-free : (G : Geometry) (K : Good G) (bad : List ℕ) (t : Tables) (S : Counted G t) → NoneFree G bad t → find G bad t ≡ Nothing
+nothing-free G K bad t S n = go (found G K t S bad)
+  where
+    go : Full G K t S bad (find G bad t) ⊎ Free G K t S bad (find G bad t) → find G bad t ≡ Nothing
+    go (inl h) = h .is
+    go (inr h) = absurd (let z : at (t .free) (h .seg) ≡ 0 = n (h .seg) (h .next .seg) (h .good) in omega (arith, h .next .some-free))
 
 module _ (G : Geometry) (bad : List ℕ) where
   -- where its tests pass no call answers 22 or 117
@@ -66,7 +74,7 @@ module _ (G : Geometry) (bad : List ℕ) where
 
   pass-plain : (a : Answer) → Pass a → Plain a
   pass-plain (Moved m) h = tt
-  pass-plain (Refused c) h = in-pass InDeed (λ _. tt) tt (kindOf c) h
+  pass-plain (Refused c) h = pass-kind InDeed (λ _. tt) tt (kindOf c) h
 
   write-plain : (l off : ℕ) (d : List ℕ) (st : State) → Plain (writePage G bad l off d st .answer)
   write-plain l off d st = write-by G bad (λ o. Plain (o .answer)) l off d st tt (λ _ _ _. tt) (λ _ _ _. tt)
@@ -170,15 +178,15 @@ module _ (G : Geometry) (bad : List ℕ) where
         run-is G bad c r
         ∙ guarded-passes _ _ _ _ x _ (sizes-exactly G bad c r .whenever (P .sizes-right)) (sound-exactly G bad c r (P .sizes-right) .whenever (P .sound)) (W .0) (W .1)
 
-    plain-passed : (a : Answer) → Plain a → run G bad c r .answer ≡ a → Passed G bad c r
-    plain-passed a p =
+    plapass-kinded : (a : Answer) → Plain a → run G bad c r .answer ≡ a → Passed G bad c r
+    plapass-kinded a p =
         by-tests a (λ _ e. absurd (subst Plain (sym e) p)) (λ _ _ e. absurd (subst Plain (sym e) p)) (λ _ _ _ e. absurd (subst Plain (sym e) p)) (λ P _. P)
 
     -- an answer of the deed, and of the call
     deed-exactly : (a : Answer) → Plain a → Exactly (run G bad c r .answer ≡ a) (Passed G bad c r × (deed G bad c r .answer ≡ a))
     deed-exactly a p =
         record {
-          only = λ e. let P : Passed G bad c r = plain-passed a p e in (P, sym (ap (λ (y : Outcome). y .answer) (passed-is P)) ∙ e);
+          only = λ e. let P : Passed G bad c r = plapass-kinded a p e in (P, sym (ap (λ (y : Outcome). y .answer) (passed-is P)) ∙ e);
           whenever = λ h. ap (λ (y : Outcome). y .answer) (passed-is (h .0)) ∙ h .1;
         }
 
@@ -302,16 +310,8 @@ module _ (G : Geometry) (bad : List ℕ) where
         (λ P.
         record {
           only = λ e. subst Ends e (ends P) .0 .none;
-          whenever = λ n. ap (λ (y : Out). y .answer) (write-none G bad _ _ _ (stateIn G r) (nothing P n));
+          whenever = λ n. ap (λ (y : Out). y .answer) (write-none G bad _ _ _ (stateIn G r) (nothing-free G (fits P .good) bad (tab G r) (fits P .counted) n));
         })
-      where
-        nothing : Passed G bad writing r → NoneFree G bad (tab G r) → find G bad (tab G r) ≡ Nothing
-        nothing P n = go (found G (fits P .good) (tab G r) (fits P .counted) bad)
-          where
-            go : Full G (fits P .good) (tab G r) (fits P .counted) bad (find G bad (tab G r)) ⊎ Free G (fits P .good) (tab G r) (fits P .counted) bad (find G bad (tab G r))
-                → find G bad (tab G r) ≡ Nothing
-            go (inl h) = h .is
-            go (inr h) = absurd (let z : at (tab G r .free) (h .seg) ≡ 0 = n (h .seg) (h .next .seg) (h .good) in omega (arith, h .next .some-free))
 
     -- "the device refuses the programming"
     pub device-exactly : Exactly (run G bad (Write sector len d s) r .answer ≡ Refused Device)
@@ -357,22 +357,51 @@ module _ (G : Geometry) (bad : List ℕ) (v : ℕ) where
   one-stop (copy n q h) s (copy m p i) t = one-stop h s i t
 
 -- what a copy may answer
-abbrev InCopy : Kind → Type 0
-InCopy in-tests = ⊥
-InCopy in-read = ⊥
-InCopy (in-write f) = ⊥
-InCopy (in-copy f) = Unit {0}
-InCopy in-erase = ⊥
-InCopy (in-file r) = ⊥
-
 abbrev CopyMay : Answer → Type 0
 CopyMay (Moved m) = Unit {0}
-CopyMay (Refused c) = InCopy (kindOf c)
+CopyMay (Refused c) = ByCopy (kindOf c)
 
 copy-may : (G : Geometry) (bad : List ℕ) (v : ℕ) (st : State) → CopyMay (copyOne G bad v st .answer)
 copy-may G bad v st =
     let l : ℕ = lastOf G v (st .tab) in
     write-by G bad (λ o. CopyMay (copyAnswer (o .answer))) l 0 (whole G st l) st tt (λ _ _ _. tt) (λ _ _ _. tt)
+
+-- ---- what a copy is refused for
+
+module _ (G : Geometry) (K : Good G) (bad : List ℕ) (v : ℕ) where
+  abbrev Why : State → Answer → Type 0
+  Why st (Moved m) = Unit {0}
+  Why st (Refused c) = CopyWhy G bad st (kindOf c)
+
+  -- the write that a copy is
+  abbrev copying : State → Out
+  copying st = let l = lastOf G v (st .tab) in writePage G bad l 0 (whole G st l) st
+
+  why-of : (st : State) (a : Answer) → WriteEnds G bad (whole G st (lastOf G v (st .tab))) st (copying st .st) (copying st .ops) a → Why st (copyAnswer a)
+  why-of st (Moved m) w = tt
+  why-of st (Refused NoRoom) w = w .0 .none
+  why-of st (Refused Device) w = (w .0 .seg, w .0 .page, w .0 .found, w .0 .refused)
+  why-of st (Refused Wrong) w = absurd w
+  why-of st (Refused Unsound) w = absurd w
+  why-of st (Refused Unmapped) w = absurd w
+  why-of st (Refused CopyNoRoom) w = absurd w
+  why-of st (Refused CopyDevice) w = absurd w
+  why-of st (Refused Erase) w = absurd w
+  why-of st (Refused (Reason r)) w = absurd w
+
+  copy-why : (st : State) → Counted G (st .tab) → Why st (copyOne G bad v st .answer)
+  copy-why st S = why-of st (copying st .answer) (write-ends G K bad (lastOf G v (st .tab)) 0 (whole G st (lastOf G v (st .tab))) st S)
+
+  copy-none : (st : State) → Counted G (st .tab) → NoneFree G bad (st .tab) → copyOne G bad v st .answer ≡ Refused CopyNoRoom
+  copy-none st S n = ap (λ (o : Out). copyAnswer (o .answer)) (write-none G bad _ _ _ st (nothing-free G K bad (st .tab) S n))
+
+  copy-refused : (st : State) → Finds G bad st false → copyOne G bad v st .answer ≡ Refused CopyDevice
+  copy-refused st h = ap (λ (o : Out). copyAnswer (o .answer)) (write-spent G bad _ _ _ st (h .0) (h .1) (h .2) (h .3))
+
+  -- finished copies leave sound tables
+  copies-sound : v < G .n → {k : ℕ} {st here : State} → Copies G bad v k st here → Counted G (st .tab) → Fit G (st .flash) → Counted G (here .tab)
+  copies-sound seg none S F = S
+  copies-sound seg {st = st} (copy n q h) S F = let w = W G K bad v seg st S F n in copies-sound seg h (w .sound) (w .fit)
 
 module _ (G : Geometry) (K : Good G) (bad : List ℕ) (st : State) (S : Counted G (st .tab)) (F : Fit G (st .flash)) where
   module _ (some : st .tab .queued ≢ 0) where
@@ -429,11 +458,22 @@ module _ (G : Geometry) (K : Good G) (bad : List ℕ) (st : State) (S : Counted 
     finish-no : (z : State) → mayErase G v (z .flash) ≡ false → finishOf G v z .answer ≡ Refused Erase
     finish-no z e = ap (λ (y : Out). y .answer) (finish-refused G v z e)
 
-    -- a copy answers 14, for want of room or by the device, or is done
+    fails-so : (c : Cause) → copyOne G bad v (D .here) .answer ≡ Refused c → at (D .here .tab .lens) v ≢ 0 → CopyFails G bad st c
+    fails-so c e n =
+        record {
+          some = some;
+          done = D .done;
+          here = D .here;
+          copies = D .copies;
+          more = n;
+          why = subst (Why G K bad v (D .here)) e (copy-why G K bad v (D .here) (D .sound));
+        }
+
+    -- a copy is refused for room or at the device, or is done
     copied-as : (a : Answer) → CopyMay a → copyOne G bad v (D .here) .answer ≡ a → IsRefused a → at (D .here .tab .lens) v ≢ 0 → PassWhen G bad st a
     copied-as (Moved m) p e i n = absurd i
-    copied-as (Refused CopyNoRoom) p e i n = record { some = some; done = D .done; here = D .here; copies = D .copies; more = n; refused = e }
-    copied-as (Refused CopyDevice) p e i n = record { some = some; done = D .done; here = D .here; copies = D .copies; more = n; refused = e }
+    copied-as (Refused CopyNoRoom) p e i n = fails-so CopyNoRoom e n
+    copied-as (Refused CopyDevice) p e i n = fails-so CopyDevice e n
     copied-as (Refused Erase) p e i n = absurd p
     copied-as (Refused Wrong) p e i n = absurd p
     copied-as (Refused Unsound) p e i n = absurd p
@@ -455,15 +495,18 @@ module _ (G : Geometry) (K : Good G) (bad : List ℕ) (st : State) (S : Counted 
             (record { some = some; done = D .done; here = D .here; copies = D .copies; emptied = h .0; erase = e })
 
     -- and back
-    fails-back : (c : Cause) → CopyFails G bad st c → collect G bad st .answer ≡ Refused c
-    fails-back c X = go way
+    fails-back : (c : Cause) (X : CopyFails G bad st c) → copyOne G bad v (X .here) .answer ≡ Refused c → collect G bad st .answer ≡ Refused c
+    fails-back c X q = go way
       where
         e : X .here ≡ D .here
-        e = same-here (X .here) (X .copies) (inr (c, X .refused))
+        e = same-here (X .here) (X .copies) (inr (c, q))
 
         go : Way (collect G bad st .answer) → collect G bad st .answer ≡ Refused c
         go (inl h) = absurd (X .more (ap (λ z. at (z .tab .lens) v) e ∙ h .0))
-        go (inr h) = sym (h .1) ∙ ap (λ z. copyOne G bad v z .answer) (sym e) ∙ X .refused
+        go (inr h) = sym (h .1) ∙ ap (λ z. copyOne G bad v z .answer) (sym e) ∙ q
+
+    sound-there : {k : ℕ} {here : State} → Copies G bad v k st₁ here → Counted G (here .tab)
+    sound-there h = copies-sound G K bad v (victim-seg G (st .tab) S pos) h (taken-sound G (st .tab) S pos) F
 
     copied-back : (b : Bool) → AllCopied G bad st b → collect G bad st .answer ≡ finishOf G v (D .here) .answer
     copied-back b X = go way
@@ -491,8 +534,8 @@ module _ (G : Geometry) (K : Good G) (bad : List ℕ) (st : State) (S : Counted 
   pass-back : (a : Answer) → PassWhen G bad st a → collect G bad st .answer ≡ a
   pass-back (Moved m) (z, inl e) = collect-empty e ∙ ap Moved (sym z)
   pass-back (Moved m) (z, inr X) = copied-back (X .some) true X ∙ finish-yes (X .some) (D (X .some) .here) (erases-here (X .some) true X) ∙ ap Moved (sym z)
-  pass-back (Refused CopyNoRoom) X = fails-back (X .some) CopyNoRoom X
-  pass-back (Refused CopyDevice) X = fails-back (X .some) CopyDevice X
+  pass-back (Refused CopyNoRoom) X = fails-back (X .some) CopyNoRoom X (copy-none G K bad _ (X .here) (sound-there (X .some) (X .copies)) (X .why))
+  pass-back (Refused CopyDevice) X = fails-back (X .some) CopyDevice X (copy-refused G K bad _ (X .here) (X .why))
   pass-back (Refused Erase) X = copied-back (X .some) false X ∙ finish-no (X .some) (D (X .some) .here) (erases-here (X .some) false X)
   pass-back (Refused Wrong) X = absurd X
   pass-back (Refused Unsound) X = absurd X

@@ -1,4 +1,4 @@
--- The premises of Leaves, Signs, Seen, Fresh, Marked, Kept, PowerOn and Served can be met: two units of device A and A3, by computation. Exactly asks nothing.
+-- The premises of Leaves, Signs, Seen, Fresh, Marked, Kept, PowerOn, Served and Told can be met: two units of device A and A3, by computation. Exactly asks nothing.
 use Prim.Native.Nat.{ℕ, _≤_}
 use native.Mathlib.Omega.{arith}
 use mathlib.Core.Path.{_≡_, refl}
@@ -6,6 +6,7 @@ use mathlib.Core.List.{List, [], _∷_, _++_}
 use lib.ListN.{take, replicate}
 use Rattle.crc32.specs.Crc32.{plus, add, among, powers, low, remainder, bitsOf, bits, digit, number as valueOf, dividend, crc32}
 use Rattle.model.specs.declared.Geometry.{Geometry}
+use Rattle.model.specs.declared.Numbers.the-variants.{Old}
 use Rattle.model.specs.declared.Answer.the-variants.{Moved, Refused}
 use Rattle.model.specs.declared.Cause.the-variants.{Wrong, Unmapped, NoRoom, Device, CopyNoRoom, CopyDevice, Erase, Reason}
 use Rattle.model.specs.Lists.{without, pushFront, insertBy, sortBy, splice, total, occ, all, every, blank, upTo, zeros}
@@ -31,6 +32,7 @@ use Rattle.demands.proofs.Fresh.{started}
 use Rattle.demands.proofs.Seen.{read-after-write, read-behind-collection}
 use Rattle.demands.proofs.Kept.{unit-restores}
 use Rattle.demands.proofs.Served.{serves, refused-by-the-fuse}
+use Rattle.demands.proofs.Told.{told-by-the-fuse}
 use Rattle.demands.proofs.PowerOn.{powered-read, powered-encode, powered-restore}
 
 abbrev A : Geometry
@@ -166,7 +168,8 @@ dark-calls =
       restores = powered-restore h [] (zeros 6 ∷ []) tt;
     }
 
--- in service: pages written, a collection, a restore that is refused, a formatting cut short; then a segment goes bad. A write is refused where no fuse is left
+-- in service: pages written, a collection, a restore that is refused, a formatting cut short; then a segment goes bad. Where no fuse is left a write
+-- is refused, and a collection is told 121
 abbrev late : Recorder
 late = lit endless (after A bad Format (lit 1 (after A bad (Restore [] (zeros 4 ∷ [])) (after A bad (Collect gc) unit))))
 
@@ -175,6 +178,7 @@ pub record Serving : Type 0 where
   moved : run A (0 ∷ 1 ∷ []) (put 8 4) late .answer ≡ Moved 4
   spent : run A bad (put 8 4) (lit 0 late) .answer ≡ Refused Device
   by-the-fuse : after A bad (put 8 4) (lit 0 late) .flash .fuse ≡ 0
+  told : after A bad (Collect gc) (lit 0 unit) .flash .fuse ≡ 0
 
 served : Serving
 unfolding
@@ -193,7 +197,8 @@ served =
       serving = l;
       moved = refl;
       spent = refl;
-      by-the-fuse = refused-by-the-fuse A bad (history.lent-fuse l 0) 8 4 (replicate 4 4) (zeros 4 ∷ zeros 4 ∷ []) (record { left-is = refl; answer-is = refl });
+      by-the-fuse = refused-by-the-fuse A bad (history.lent-fuse l 0) 8 4 (replicate 4 4) (zeros 4 ∷ zeros 4 ∷ []) {N = Old} (record { left-is = refl; answer-is = refl });
+      told = told-by-the-fuse A bad (history.lent-fuse u 0) (Collect gc) (record { left-is = refl; answer-is = refl });
     }
 
 -- why an accepted formatting is left out of `Ordinary`: it erases under the tables

@@ -1,25 +1,25 @@
--- 02, M-102: "from formatted flash and fresh tables, with no further opening or restore, no call is ever refused for this". Each premise `Promise …` is
+-- 02, M-102: "from formatted flash and fresh tables, with no further opening or restore, no call is ever refused for this". Each premise `PromiseIn N …` is
 -- the `ensures` of a public function, as in Demands.
 use Prim.Native.Nat.{ℕ, _*_, _≤_}
 use native.Mathlib.Omega.{arith}
 use mathlib.Core.Path.{_≡_, refl, sym, ap, _∙_, subst}
 use mathlib.Core.Logic.{_≢_}
 use mathlib.Core.List.{List, [], _∷_}
-use lib.IntN.{ℤ, pos, negsuc}
+use lib.IntN.{ℤ, negsuc}
 use lib.ListN.{length, take}
 use Rattle.model.specs.declared.Geometry.{Geometry}
 use Rattle.model.specs.declared.Numbers.{Numbers}
-use Rattle.model.specs.declared.Numbers.the-variants.{Old}
+use Rattle.model.specs.declared.Numbers.the-variants.{Old, New}
 use Rattle.model.specs.declared.Answer.{Answer}
 use Rattle.model.specs.declared.Answer.the-variants.{Refused}
 use Rattle.model.specs.declared.Cause.{Cause}
-use Rattle.model.specs.declared.Cause.the-variants.{Device}
+use Rattle.model.specs.declared.Cause.the-variants.{NoRoom, Device}
 use Rattle.model.specs.Lists.{zeros}
 use Rattle.model.specs.Numbers.{Good, endless, number}
 use Rattle.model.specs.Causes.{kindOf}
 use Rattle.model.specs.Tables.{tabWords, pages}
 use Rattle.model.specs.Device.{Flash, flash, Op, Program, EraseSeg, Out, burn, performAll}
-use Rattle.model.specs.Entry.{Recorder, recorder, Lent, lent, Outcome, Promise, PromiseIn, stateOf, write}
+use Rattle.model.specs.Entry.{Recorder, recorder, Lent, lent, Outcome, PromiseIn, stateOf, write}
 use Rattle.model.specs.History.{Call, Format, Open, Write, lit, run, after, opsOf, InService, delivered, lent-fuse, AtProgramming, OnlyFuse}
 use Rattle.model.proofs.Guard.{guarded-by}
 use Rattle.model.proofs.Entry.{endless-law}
@@ -56,23 +56,27 @@ module _ (G : Geometry) (bad : List ℕ) where
       omega arith
 
   -- a write's -5 is the device's refusal to program
-  abbrev Five : Answer → Type 0
-  Five a = negsuc 4 ≡ number Old a → a ≡ Refused Device
+  abbrev Five : Numbers → Answer → Type 0
+  Five N a = negsuc 4 ≡ number N a → a ≡ Refused Device
 
-  five : (sector len : ℕ) (d : List ℕ) (x : Lent) → Five (write G bad sector len d x .answer)
+  full-five : (N : Numbers) → Five N (Refused NoRoom)
+  full-five Old = unlike 4 13 (omega arith)
+  full-five New = unlike 4 27 (omega arith)
+
+  five : (N : Numbers) (sector len : ℕ) (d : List ℕ) (x : Lent) → Five N (write G bad sector len d x .answer)
   unfolding write
-  five sector len d x =
-      guarded-by (λ (o : Outcome). Five (o .answer)) _ _ _ _ x _ (unlike 4 21 (omega arith)) (unlike 4 116 (omega arith))
+  five N sector len d x =
+      guarded-by (λ (o : Outcome). Five N (o .answer)) _ _ _ _ x _ (unlike 4 21 (omega arith)) (unlike 4 116 (omega arith))
       (λ _ _ _ _.
-      write-by G bad (λ (o : Out). Five (o .answer)) _ _ (take len d) (stateOf G x) (unlike 4 13 (omega arith)) (λ _ _ _ e. unlike-count (length (take len d)) 4 (sym e))
+      write-by G bad (λ (o : Out). Five N (o .answer)) _ _ (take len d) (stateOf G x) (full-five N) (λ _ _ _ e. unlike-count (length (take len d)) 4 (sym e))
       (λ _ _ _ _. refl))
 
-  module _ {r : Recorder} (h : InService G r) (sector len : ℕ) (d : List ℕ) (s : List (List ℕ)) {x : Lent} where
+  module _ {r : Recorder} (h : InService G r) (sector len : ℕ) (d : List ℕ) (s : List (List ℕ)) {N : Numbers} {x : Lent} where
     -- a write that answers -5: the fuse is out
-    pub refused-by-the-fuse : Promise (write G bad sector len d (lent r [] s)) x (negsuc 4) → x .unit .flash .fuse ≡ 0
+    pub refused-by-the-fuse : PromiseIn N (write G bad sector len d (lent r [] s)) x (negsuc 4) → x .unit .flash .fuse ≡ 0
     refused-by-the-fuse P =
-        subst (λ y. OnlyFuse y (x .unit .flash)) (five sector len d (lent r [] s) (P .answer-is)) (fuse-alone h (Write sector len d s) P) tt
+        subst (λ y. OnlyFuse y (x .unit .flash)) (five N sector len d (lent r [] s) (P .answer-is)) (fuse-alone h (Write sector len d s) P) tt
 
     -- with a fuse that never ends no write answers -5
-    pub never-five : {z : ℤ} → Promise (write G bad sector len d (lent (lit endless r) [] s)) x z → z ≢ negsuc 4
-    never-five P e = never-refused h (Write sector len d s) Device (five sector len d (lent (lit endless r) [] s) (sym e ∙ P .answer-is)) tt
+    pub never-five : {z : ℤ} → PromiseIn N (write G bad sector len d (lent (lit endless r) [] s)) x z → z ≢ negsuc 4
+    never-five P e = never-refused h (Write sector len d s) Device (five N sector len d (lent (lit endless r) [] s) (sym e ∙ P .answer-is)) tt

@@ -16,7 +16,7 @@ use Rattle.model.specs.declared.Numbers.the-variants.{Old, New}
 use Rattle.model.specs.declared.Answer.{Answer}
 use Rattle.model.specs.declared.Answer.the-variants.{Moved, Refused}
 use Rattle.model.specs.declared.Cause.the-variants.{Wrong, Unsound, Unmapped, NoRoom, Device, CopyNoRoom, CopyDevice, Erase, Reason}
-use Rattle.model.specs.Causes.{kindOf, OfReason}
+use Rattle.model.specs.Causes.{kindOf, OfReason, ReasonsIn}
 use Rattle.model.specs.Device.{State, Out}
 use Rattle.model.specs.PageWrite.{writePage}
 use Rattle.model.specs.PageGc.{collectList}
@@ -25,21 +25,20 @@ use Rattle.model.specs.Entry.{Recorder, Lent, lent, Outcome, unless, stateOf, c
 use Rattle.model.specs.Entry.{formatting, opening, read, write, collection, listCollection, thresholdCollection, encoding, restoring}
 use Rattle.model.specs.History.{Call, Format, Open, Read, Write, Collect, CollectList, CollectThreshold, Encode, Restore, run}
 use Rattle.model.proofs.Guard.{unless-by, guarded-by}
-use Rattle.demands.proofs.Unchanged.{in-pass, Pass, collect-pass, more-pass, threshold-pass, formats-all}
+use Rattle.demands.proofs.Unchanged.{pass-kind, Pass, collect-pass, more-pass, threshold-pass, formats-all}
 use Rattle.demands.specs.When.{IsCount, IsRefusal}
 use Rattle.demands.proofs.Walk.{write-by}
 
 -- "and the reason is the answer": 1 to 9
-abbrev FairReason : ℕ → Type 0
+abbrev pub FairReason : ℕ → Type 0
 FairReason k = (1 ≤ k) × (k ≤ 9)
 
 abbrev pub Fair : Answer → Type 0
-Fair (Moved m) = Unit {0}
-Fair (Refused c) = OfReason FairReason (kindOf c)
+Fair = ReasonsIn FairReason
 
 pass-fair : (a : Answer) → Pass a → Fair a
 pass-fair (Moved m) h = tt
-pass-fair (Refused c) h = in-pass (OfReason FairReason) (λ _. tt) tt (kindOf c) h
+pass-fair (Refused c) h = pass-kind (OfReason FairReason) (λ _. tt) tt (kindOf c) h
 
 -- the first test that fails is one of them
 first-in : (k : ℕ) (bs : List Bool) → (firstNot k bs ≡ 0) ⊎ ((k ≤ firstNot k bs) × (firstNot k bs < k + length bs))
@@ -61,13 +60,16 @@ reason-in G b n = go (first-in 1 (fileTests G b))
     go (inl e) = absurd (n e)
     go (inr h) = (h .0, omega (arith, h .1))
 
--- two refusal numbers
-pub unlike : {A : Type 0} (k j : ℕ) → k ≢ j → negsuc k ≡ negsuc j → A
-unlike k j n e = absurd (n (ap below e))
+-- refusal numbers that are the same, and that are not
+pub same-below : {k j : ℕ} → negsuc k ≡ negsuc j → k ≡ j
+same-below e = ap below e
   where
     below : ℤ → ℕ
     below (pos m) = m
     below (negsuc m) = m
+
+pub unlike : {A : Type 0} (k j : ℕ) → k ≢ j → negsuc k ≡ negsuc j → A
+unlike k j n e = absurd (n (same-below e))
 
 -- a count is no refusal number
 pub unlike-count : {A : Type 0} (m j : ℕ) → pos m ≡ negsuc j → A

@@ -101,14 +101,14 @@ module _ (G : Geometry) (bad : List ℕ) where
   pub collects-only : (r : Recorder) (s : List (List ℕ)) → Drained G r → Erases G r (run G bad (Collect s) r .answer) (run G bad (Collect s) r .ops)
   unfolding collection collect collectOf finishOf
   collects-only r s e =
-      guarded-by (λ y. Erases G r (y .answer) (y .ops)) _ _ _ _ (lent r [] s) _ (tt, refl) (tt, refl) (λ _ _ _ _. go (eqb (tab G r .queued) 0) refl)
+      guarded-by (λ y. Erases G r (y .answer) (y .ops)) _ _ _ _ (lent r [] s) _ ((λ z. z), refl) ((λ z. z), refl) (λ _ _ _ _. go (eqb (tab G r .queued) 0) refl)
     where
       Goal : Out → Type 0
       Goal o = Erases G r (o .answer) (o .ops)
 
       erase : (b : Bool) (t : Tables) → Goal (cond b (cleared G (victim (tab G r)) (state t (r .flash))) (refuse Erase (state t (r .flash))))
       erase true t = inr refl
-      erase false t = (tt, refl)
+      erase false t = ((λ z. z), refl)
 
       go : (b : Bool) → eqb (tab G r .queued) 0 ≡ b → Goal (cond b (finish 0 (stateOf G (lent r [] s))) (collectOf G bad (victim (tab G r)) (stateOf G (lent r [] s))))
       go true q = inl (eqb-true _ _ q, refl)

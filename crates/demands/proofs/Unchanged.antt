@@ -1,4 +1,4 @@
--- 01's rows whose third column is "nothing changed" (22, 117, 61, a write's 14, a restore's reasons): nothing that was lent has changed, and no device
+-- 01's rows whose third column is "nothing changed" (22, 117, 61, a write's 14 or 28, a restore's reasons): nothing that was lent has changed, and no device
 -- operation was done. And
 -- "zero scratch is handed back zero".
 use Prim.Native.Nat.{ℕ, zero, suc}
@@ -11,7 +11,7 @@ use Rattle.model.specs.declared.Geometry.{Geometry}
 use Rattle.model.specs.declared.Answer.{Answer}
 use Rattle.model.specs.declared.Cause.{Cause}
 use Rattle.model.specs.declared.Answer.the-variants.{Moved, Refused}
-use Rattle.model.specs.declared.Cause.the-variants.{Wrong, Unsound, Unmapped, NoRoom, Device, CopyNoRoom, CopyDevice, Erase, Reason}
+use Rattle.model.specs.declared.Cause.the-variants.{Unmapped, Reason}
 use Rattle.model.specs.Numbers.{good?, logicalPage, offset}
 use Rattle.model.specs.Causes.{Failing, Kind, in-tests, in-read, in-write, in-copy, in-erase, in-file, kindOf}
 use Rattle.model.specs.Tables.{view, tabWords}
@@ -41,13 +41,13 @@ abbrev pub Pass : Answer → Type 0
 Pass (Moved m) = Unit {0}
 Pass (Refused c) = InPass (kindOf c)
 
-pub in-pass : (P : Kind → Type 0) → ((f : Failing) → P (in-copy f)) → P in-erase → (k : Kind) → InPass k → P k
-in-pass P copy erase in-tests h = absurd h
-in-pass P copy erase in-read h = absurd h
-in-pass P copy erase (in-write f) h = absurd h
-in-pass P copy erase (in-copy f) h = copy f
-in-pass P copy erase in-erase h = erase
-in-pass P copy erase (in-file r) h = absurd h
+pub pass-kind : (P : Kind → Type 0) → ((f : Failing) → P (in-copy f)) → P in-erase → (k : Kind) → InPass k → P k
+pass-kind P copy erase in-tests h = absurd h
+pass-kind P copy erase in-read h = absurd h
+pass-kind P copy erase (in-write f) h = absurd h
+pass-kind P copy erase (in-copy f) h = copy f
+pass-kind P copy erase in-erase h = erase
+pass-kind P copy erase (in-file r) h = absurd h
 
 pass-then : (a : Answer) (o : Out) (f : State → Out) → Pass (o .answer) → Pass (f (o .st) .answer) → Pass (goOn a o f .answer)
 pass-then (Moved m) o f h r = r
@@ -92,7 +92,7 @@ module _ (G : Geometry) (bad : List ℕ) where
     Stays x o = o .answer ≡ Refused k → (o .left ≡ x) × (o .ops ≡ [])
 
     none : {A : Type 0} (a : Answer) → Pass a → a ≡ Refused k → A
-    none a h e = absurd (in-pass (λ k. Quiet k → ⊥) (λ _ z. z) (λ z. z) (kindOf k) (subst Pass e h) q)
+    none a h e = absurd (pass-kind (λ k. Quiet k → ⊥) (λ _ z. z) (λ z. z) (kindOf k) (subst Pass e h) q)
 
     collecting-stays : (x : Lent) (o : Out) → Pass (o .answer) → Stays x (collecting G bad x o)
     collecting-stays x o h = guarded-by (Stays x) _ _ _ _ x _ (λ _. (refl, refl)) (λ _. (refl, refl)) (λ _ _ _ _ e. none (o .answer) h e)

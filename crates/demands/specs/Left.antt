@@ -58,7 +58,7 @@ pub record Spent (G : Geometry) (bad : List ℕ) (st st′ : State) : Type 0 whe
   pub flags : st′ .tab .flags ≡ st .tab .flags
   pub flash : st′ .flash ≡ st .flash
 
--- ---- 14 and 5 (collection)
+-- ---- 14 (28 or 121 in the new numbers) and 5 (collection)
 
 -- a copy that found no room: nothing changed by it
 pub record NotFound (G : Geometry) (bad : List ℕ) (st st′ : State) : Type 0 where

@@ -8,7 +8,7 @@ use Rattle.model.specs.declared.Geometry.{Geometry}
 use Rattle.model.specs.declared.Answer.{Answer}
 use Rattle.model.specs.declared.Answer.the-variants.{Moved, Refused}
 use Rattle.model.specs.Numbers.{logicalPage}
-use Rattle.model.specs.Causes.{Kind, in-tests, in-read, in-write, in-copy, in-erase, in-file, kindOf}
+use Rattle.model.specs.Causes.{kindOf, ByCopy}
 use Rattle.model.specs.Tables.{Tables, at}
 use Rattle.model.specs.Device.{Flash, flash, Op, EraseSeg, raised}
 use Rattle.model.specs.PageGc.{victim, lastOf}
@@ -33,19 +33,10 @@ Gentle (Restore b s) = ⊥
 abbrev pub Drained : Geometry → Recorder → Type 0
 Drained G r = 0 < tab G r .queued → at (tab G r .lens) (victim (tab G r)) ≡ 0
 
--- not because a copy was refused
-abbrev pub NotByCopy : Kind → Type 0
-NotByCopy (in-copy f) = ⊥
-NotByCopy in-tests = Unit {0}
-NotByCopy in-read = Unit {0}
-NotByCopy (in-write f) = Unit {0}
-NotByCopy in-erase = Unit {0}
-NotByCopy (in-file r) = Unit {0}
-
 -- the victim erased and nothing else; nothing where there is none, or where the collection is refused, which is not by a copy
 abbrev pub Erases : Geometry → Recorder → Answer → List Op → Type 0
 Erases G r (Moved m) ops = ((tab G r .queued ≡ 0) × (ops ≡ [])) ⊎ (ops ≡ EraseSeg (victim (tab G r)) (raised G (victim (tab G r)) (r .flash)) ∷ [])
-Erases G r (Refused c) ops = NotByCopy (kindOf c) × (ops ≡ [])
+Erases G r (Refused c) ops = (ByCopy (kindOf c) → ⊥) × (ops ≡ [])
 
 -- the file is what an encoding of r₀ that was not refused wrote
 pub record Saved (G : Geometry) (bad : List ℕ) (r₀ : Recorder) (file : List ℕ) : Type 0 where

@@ -14,6 +14,7 @@ use Rattle.model.specs.declared.Cause.the-variants.{Wrong, Unsound, Unmapped, N
 use Rattle.model.specs.declared.Found.the-variants.{At}
 use Rattle.model.specs.Lists.{total}
 use Rattle.model.specs.Numbers.{empty, refusal, number, logicalPage}
+use Rattle.model.specs.Causes.{for-room, at-device, Kind, in-tests, in-read, in-write, in-copy, in-erase, in-file, kindOf}
 use Rattle.model.specs.Tables.{Tables, at, wordOf}
 use Rattle.model.specs.Sound.{Mapped}
 use Rattle.model.specs.Device.{Flash, Op, State, state, mayProgram, mayErase}
@@ -26,7 +27,7 @@ use Rattle.demands.specs.Given.{tab, stateIn, SizesRight, TablesSound, W
 
 -- ---- a write
 
--- 14: "no segment outside the bad list has free count above 0"
+-- 14, 28 in the new numbers: "no segment outside the bad list has free count above 0"
 abbrev pub NoneFree : Geometry → List ℕ → Tables → Type 0
 NoneFree G bad t = (g : ℕ) → g < G .n → at bad g ≡ 0 → at (t .free) g ≡ 0
 
@@ -47,14 +48,24 @@ pub data Copies (G : Geometry) (bad : List ℕ) (v : ℕ) : ℕ → State → St
   copy : {k m : ℕ} {st st′ : State} → at (st .tab .lens) v ≢ 0 → copyOne G bad v st .answer ≡ Moved m → Copies G bad v k (copyOne G bad v st .st) st′
       → Copies G bad v (suc k) st st′
 
--- 14: "a copy gets 14 or 5". So many copies are finished, and the next is refused with c
+-- 02, M-101: "whether a copy failed for room (28) or at the device (121)"
+abbrev pub CopyWhy : Geometry → List ℕ → State → Kind → Type 0
+CopyWhy G bad st (in-copy for-room) = NoneFree G bad (st .tab)
+CopyWhy G bad st (in-copy at-device) = Finds G bad st false
+CopyWhy G bad st in-tests = ⊥
+CopyWhy G bad st in-read = ⊥
+CopyWhy G bad st (in-write f) = ⊥
+CopyWhy G bad st in-erase = ⊥
+CopyWhy G bad st (in-file r) = ⊥
+
+-- 14, 28 or 121 in the new numbers: "a copy gets 14 or 5". So many copies are finished, and the next is refused with c
 pub record CopyFails (G : Geometry) (bad : List ℕ) (st : State) (c : Cause) : Type 0 where
   pub some : st .tab .queued ≢ 0
   pub done : ℕ
   pub here : State
   pub copies : Copies G bad (victim (st .tab)) done (state (taken (st .tab)) (st .flash)) here
   pub more : at (here .tab .lens) (victim (st .tab)) ≢ 0
-  pub refused : copyOne G bad (victim (st .tab)) here .answer ≡ Refused c
+  pub why : CopyWhy G bad here (kindOf c)
 
 -- all are copied; then 5: "the erase is refused", or it is done
 pub record AllCopied (G : Geometry) (bad : List ℕ) (st : State) (erases : Bool) : Type 0 where

@@ -3,13 +3,14 @@ ghost use mathlib.Core.Path.{_≡_};
 ghost use mathlib.Core.List.{[], _∷_};
 ghost use Rattle.crc32.specs.Crc32.{crc32};
 ghost use Rattle.model.specs.declared.Numbers.the-variants.{New};
-ghost use Rattle.model.specs.Numbers.{Good, geometry};
+ghost use Rattle.model.specs.Numbers.{geometry};
 ghost use Rattle.model.specs.Device.{flash};
 ghost use Rattle.model.specs.Entry.{recorder, lent, noFlash, Promise, PromiseIn};
 ghost use Rattle.model.specs.Entry.{formatting, opening, read, write, collection, listCollection, thresholdCollection, encoding, restoring};
-ghost use Rattle.ffi.specs.Sizes.{Size, sizeOf, sized};
+ghost use Rattle.sizes.specs.Sizes.{Size, sized};
 use model::Geometry;
 use model::Numbers;
+use sizes::Size;
 
 // Every segment erased, counts 0.
 #[no_mangle]
@@ -395,7 +396,7 @@ pub extern "C" fn shr_collect_told(
     };
     ftl::collect(
         geo,
-        Numbers::New,
+        Numbers::New, // a copy: 28 or 121
         bad,
         tab,
         used,
@@ -444,7 +445,7 @@ pub extern "C" fn shr_collect_list_told(
     };
     ftl::collect_list(
         geo,
-        Numbers::New,
+        Numbers::New, // a copy: 28 or 121
         m,
         bad,
         tab,
@@ -495,7 +496,7 @@ pub extern "C" fn shr_collect_threshold_told(
     };
     ftl::collect_threshold(
         geo,
-        Numbers::New,
+        Numbers::New, // a copy: 28 or 121
         threshold,
         m,
         bad,
@@ -571,51 +572,7 @@ pub extern "C" fn shr_restore(
     ftl::restore(geo, file, tab, used, taken)
 }
 
-// What a caller lends, by size.
-pub enum Size {
-    TabWords,
-    UsedBytes,
-    FlashBytes,
-    MarkBytes,
-    CountWords,
-    BadBytes,
-    PageBytes,
-    SeenBytes,
-    OrderWords,
-    TakenBytes,
-    CheckpointBytes,
-}
-
-fn size_of(geo: Geometry, what: Size) -> usize
-    requires { ⌜ Good geo ⌝ }
-    ensures { λ r. ⌜ r ≡ sizeOf geo what ⌝ }
-{
-    let pages = geo.n * geo.p;
-    match what {
-        Size::TabWords => geo.e + geo.n * 5 + 2 + pages,
-        Size::UsedBytes => pages,
-        Size::FlashBytes => pages * geo.s,
-        Size::MarkBytes => pages,
-        Size::CountWords => geo.n,
-        Size::BadBytes => geo.n,
-        Size::PageBytes => geo.s,
-        Size::SeenBytes => geo.n + geo.p,
-        Size::OrderWords => geo.n,
-        Size::TakenBytes => pages,
-        Size::CheckpointBytes => checkpoint::file_size(geo),
-    }
-}
-
-// 0 for a geometry that is refused.
-fn sized(geo: Geometry, what: Size) -> usize
-    ensures { λ r. ⌜ r ≡ sized geo what ⌝ }
-{
-    if !sound::good(geo) {
-        return 0;
-    }
-    size_of(geo, what)
-}
-
+// The sizes of all that is lent; 0 for a geometry that is refused.
 #[no_mangle]
 pub extern "C" fn shr_tab_words(
     n: usize,
@@ -635,7 +592,7 @@ pub extern "C" fn shr_tab_words(
         e,
         limit,
     };
-    sized(geo, Size::TabWords)
+    sizes::sized(geo, Size::TabWords)
 }
 
 #[no_mangle]
@@ -657,7 +614,7 @@ pub extern "C" fn shr_used_bytes(
         e,
         limit,
     };
-    sized(geo, Size::UsedBytes)
+    sizes::sized(geo, Size::UsedBytes)
 }
 
 #[no_mangle]
@@ -679,7 +636,7 @@ pub extern "C" fn shr_flash_bytes(
         e,
         limit,
     };
-    sized(geo, Size::FlashBytes)
+    sizes::sized(geo, Size::FlashBytes)
 }
 
 #[no_mangle]
@@ -701,7 +658,7 @@ pub extern "C" fn shr_mark_bytes(
         e,
         limit,
     };
-    sized(geo, Size::MarkBytes)
+    sizes::sized(geo, Size::MarkBytes)
 }
 
 #[no_mangle]
@@ -723,7 +680,7 @@ pub extern "C" fn shr_count_words(
         e,
         limit,
     };
-    sized(geo, Size::CountWords)
+    sizes::sized(geo, Size::CountWords)
 }
 
 #[no_mangle]
@@ -745,7 +702,7 @@ pub extern "C" fn shr_bad_bytes(
         e,
         limit,
     };
-    sized(geo, Size::BadBytes)
+    sizes::sized(geo, Size::BadBytes)
 }
 
 #[no_mangle]
@@ -767,7 +724,7 @@ pub extern "C" fn shr_page_bytes(
         e,
         limit,
     };
-    sized(geo, Size::PageBytes)
+    sizes::sized(geo, Size::PageBytes)
 }
 
 #[no_mangle]
@@ -789,7 +746,7 @@ pub extern "C" fn shr_seen_bytes(
         e,
         limit,
     };
-    sized(geo, Size::SeenBytes)
+    sizes::sized(geo, Size::SeenBytes)
 }
 
 #[no_mangle]
@@ -811,7 +768,7 @@ pub extern "C" fn shr_order_words(
         e,
         limit,
     };
-    sized(geo, Size::OrderWords)
+    sizes::sized(geo, Size::OrderWords)
 }
 
 #[no_mangle]
@@ -833,7 +790,7 @@ pub extern "C" fn shr_taken_bytes(
         e,
         limit,
     };
-    sized(geo, Size::TakenBytes)
+    sizes::sized(geo, Size::TakenBytes)
 }
 
 #[no_mangle]
@@ -855,7 +812,7 @@ pub extern "C" fn shr_checkpoint_bytes(
         e,
         limit,
     };
-    sized(geo, Size::CheckpointBytes)
+    sizes::sized(geo, Size::CheckpointBytes)
 }
 
 // The CRC-32 of IEEE 802.3.

@@ -18,8 +18,7 @@ use Rattle.model.specs.declared.Geometry.{Geometry}
 use Rattle.model.specs.declared.Numbers.{Numbers}
 use Rattle.model.specs.declared.Answer.{Answer}
 use Rattle.model.specs.declared.Answer.the-variants.{Moved, Refused}
-use Rattle.model.specs.declared.Cause.{Cause}
-use Rattle.model.specs.declared.Cause.the-variants.{Wrong, Unsound, Unmapped, NoRoom, Device, CopyNoRoom, CopyDevice, Erase, Reason}
+use Rattle.model.specs.declared.Cause.the-variants.{Erase}
 use Rattle.model.specs.declared.Found.{Found}
 use Rattle.model.specs.declared.Found.the-variants.{At, Nothing}
 use Rattle.model.specs.Numbers.{Good, empty, segOf, refusal, number}
@@ -31,13 +30,13 @@ use Rattle.model.specs.PageWrite.{whole, oldPage, stored, spent, writeAt, write
 use Rattle.model.specs.PageGc.{victim, taken, copyAnswer, cleared, finishOf, lastOf, copyOne}
 use Rattle.model.specs.PageGc.{drain, collectOf, collect, collectMore, collectList, collectThreshold}
 use Rattle.model.specs.Contract.{Fit}
-use Rattle.model.proofs.Causes.{as-copy}
-use Rattle.model.proofs.Told.{told-small}
+use Rattle.model.proofs.Causes.{kind-copied}
+use Rattle.model.proofs.Told.{refusal-small}
 use Rattle.model.proofs.Working.{Counted}
 use Rattle.model.proofs.Taken.{taken-sound, victim-flag, victim-full, victim-seg}
 use Rattle.model.proofs.Write.{Wrote, Busy}
 use Rattle.model.proofs.Collect.{W, last-in, Kept, collected}
-use Rattle.guard.specs.Countable.{Known, Countable}
+use Rattle.guard.specs.Countable.{Countable}
 use Rattle.guard.proofs.Signed.{small}
 
 -- the causes of a write's or a collection's own deed, behind its tests
@@ -67,20 +66,9 @@ upto-countable k (Moved m) h u = omega arith
 upto-countable k (Refused c) h u = deed-known (kindOf c) u
 
 -- the answer's number, read back from a signed word
-known-small : (N : Numbers) (c : Cause) → Known c → refusal N c < 4096
-known-small N Wrong h = omega arith
-known-small N Unsound h = omega arith
-known-small N Unmapped h = omega arith
-known-small N NoRoom h = told-small N 14 28 4096 (omega arith) (omega arith)
-known-small N Device h = omega arith
-known-small N CopyNoRoom h = told-small N 14 28 4096 (omega arith) (omega arith)
-known-small N CopyDevice h = told-small N 14 121 4096 (omega arith) (omega arith)
-known-small N Erase h = omega arith
-known-small N (Reason r) h = h
-
 signed : (N : Numbers) (a : Answer) → Countable a → SFits w64 (number N a)
 signed N (Moved m) h = record { sfits = omega arith }
-signed N (Refused c) h = small (refusal N c) (known-small N c h)
+signed N (Refused c) h = small (refusal N c) (refusal-small N c h)
 
 pub read-back : (N : Numbers) (a : Answer) → Countable a → (z : ℤ) → z ≡ number N a → toZ w64 (ofZ w64 z) ≡ number N a
 read-back N a h z e = toZ-ofZ w64 z (subst (SFits w64) (sym e) (signed N a h)) ∙ e
@@ -97,7 +85,7 @@ upto-then j k (Refused c) o f e h r = subst (Upto k) (sym e) h
 
 upto-copy : (k : ℕ) (a : Answer) → Upto k a → Upto k (copyAnswer a)
 upto-copy k (Moved m) h = h
-upto-copy k (Refused c) h = as-copy Deed (λ _ d. d) c h
+upto-copy k (Refused c) h = kind-copied Deed (λ _ d. d) c h
 
 module _ (G : Geometry) (bad : List ℕ) where
   -- ---- the answers

@@ -1,13 +1,12 @@
 // The public entries. Each tests all that it is lent, in document 01's order, and then does its deed. No entry asks anything of its caller.
 ghost use mathlib.Core.Path.{_≡_};
-ghost use mathlib.Core.Bool.{_&&_};
 ghost use mathlib.Core.List.{[], _∷_};
 ghost use Prim.Native.Nat.{_+_, _*_, _<_, _≤_};
 ghost use lib.Dec.{leb, eqb};
 ghost use lib.ListN.{length, take, drop};
-ghost use Rattle.model.specs.Lists.{every, slot, splice, blank};
+ghost use Rattle.model.specs.Lists.{every, slot, splice};
 ghost use Rattle.model.specs.Numbers.{Good, flat};
-ghost use Rattle.model.specs.Tables.{pages, tabWords};
+ghost use Rattle.model.specs.Tables.{pages};
 ghost use Rattle.model.specs.Device.{flash};
 ghost use Rattle.model.specs.Checkpoint.{fileSize};
 ghost use Rattle.model.specs.Entry.{recorder, lent, noFlash, Promise, PromiseIn, tablesFit, clean, seenScratch};
@@ -140,40 +139,6 @@ pub fn read(
     length as i64
 }
 
-// What write and the collections test first beside the geometry: tables, flash, bad list, and scratch for a page and for the soundness test.
-fn all_fit(
-    geo: Geometry,
-    bad: &[u8],
-    tab: &[u32],
-    used: &[u8],
-    bytes: &[u8],
-    marks: &[u8],
-    counts: &[u32],
-    page: &[u8],
-    seen: &[u8],
-) -> bool
-    requires { ⌜ Good geo ⌝ }
-    ensures { λ r. ⌜ r ≡ ((eqb (length (now (tab .entry))) (tabWords geo) && eqb (length (now (used .entry))) (pages geo))
-        && ((eqb (length (now (bytes .entry))) (pages geo * geo .s) && (eqb (length (now (marks .entry))) (pages geo) && eqb (length (now (counts .entry))) (geo .n)))
-        && (eqb (length (now (bad .entry))) (geo .n)
-        && ((eqb (length (now (page .entry))) (geo .s) && blank (now (page .entry)))
-        && (eqb (length (now (seen .entry))) (geo .n + geo .p) && blank (now (seen .entry))))))) ⌝ }
-{
-    if !guard::tables_fit(geo, tab, used) {
-        return false;
-    }
-    if !guard::flash_fits(geo, bytes, marks, counts) {
-        return false;
-    }
-    if bad.len() != geo.n {
-        return false;
-    }
-    if !guard::clean(page, geo.s) {
-        return false;
-    }
-    guard::clean(seen, geo.n + geo.p)
-}
-
 // Bytes at a sector, within one page.
 pub fn write(
     geo: Geometry,
@@ -199,7 +164,7 @@ pub fn write(
     if !sound::good(geo) {
         return -22;
     }
-    if !all_fit(geo, bad, tab, used, bytes, marks, counts, page, seen) {
+    if !guard::all_fit(geo, bad, tab, used, bytes, marks, counts, page, seen) {
         return -22;
     }
     if xs.len() < len {
@@ -255,7 +220,7 @@ pub fn collect(
     if !sound::good(geo) {
         return -22;
     }
-    if !all_fit(geo, bad, tab, used, bytes, marks, counts, page, seen) {
+    if !guard::all_fit(geo, bad, tab, used, bytes, marks, counts, page, seen) {
         return -22;
     }
     if !guard::clean_words(order, geo.n) {
@@ -292,7 +257,7 @@ pub fn collect_list(
     if !sound::good(geo) {
         return -22;
     }
-    if !all_fit(geo, bad, tab, used, bytes, marks, counts, page, seen) {
+    if !guard::all_fit(geo, bad, tab, used, bytes, marks, counts, page, seen) {
         return -22;
     }
     if !guard::clean_words(order, geo.n) {
@@ -342,7 +307,7 @@ pub fn collect_threshold(
     if !sound::good(geo) {
         return -22;
     }
-    if !all_fit(geo, bad, tab, used, bytes, marks, counts, page, seen) {
+    if !guard::all_fit(geo, bad, tab, used, bytes, marks, counts, page, seen) {
         return -22;
     }
     if !guard::clean_words(order, geo.n) {

@@ -5,7 +5,7 @@ ghost use Prim.Native.Nat.{_+_, _*_, _<_};
 ghost use lib.Dec.{eqb};
 ghost use lib.ListN.{length};
 ghost use Rattle.model.specs.Lists.{blank};
-ghost use Rattle.model.specs.Numbers.{Good, told, refusal, negated, number};
+ghost use Rattle.model.specs.Numbers.{Good, chosen, refusal, negated, number};
 ghost use Rattle.model.specs.Tables.{tabWords, pages};
 ghost use Rattle.guard.specs.Countable.{Known, Countable};
 use model::Answer;
@@ -65,9 +65,43 @@ pub fn clean_words(s: &[u32], k: usize) -> bool
     sound::blank_words(s)
 }
 
+// What write and the collections test first beside the geometry: tables, flash, bad list, and scratch for a page and for the soundness test.
+pub fn all_fit(
+    geo: Geometry,
+    bad: &[u8],
+    tab: &[u32],
+    used: &[u8],
+    bytes: &[u8],
+    marks: &[u8],
+    counts: &[u32],
+    page: &[u8],
+    seen: &[u8],
+) -> bool
+    requires { ⌜ Good geo ⌝ }
+    ensures { λ r. ⌜ r ≡ ((eqb (length (now (tab .entry))) (tabWords geo) && eqb (length (now (used .entry))) (pages geo))
+        && ((eqb (length (now (bytes .entry))) (pages geo * geo .s) && (eqb (length (now (marks .entry))) (pages geo) && eqb (length (now (counts .entry))) (geo .n)))
+        && (eqb (length (now (bad .entry))) (geo .n)
+        && ((eqb (length (now (page .entry))) (geo .s) && blank (now (page .entry)))
+        && (eqb (length (now (seen .entry))) (geo .n + geo .p) && blank (now (seen .entry))))))) ⌝ }
+{
+    if !tables_fit(geo, tab, used) {
+        return false;
+    }
+    if !flash_fits(geo, bytes, marks, counts) {
+        return false;
+    }
+    if bad.len() != geo.n {
+        return false;
+    }
+    if !clean(page, geo.s) {
+        return false;
+    }
+    clean(seen, geo.n + geo.p)
+}
+
 // The number by the choice: document 01's, or that of 02, M-101.
-fn told(numbers: Numbers, old: usize, new: usize) -> usize
-    ensures { λ r. ⌜ r ≡ told numbers old new ⌝ }
+fn chosen(numbers: Numbers, old: usize, new: usize) -> usize
+    ensures { λ r. ⌜ r ≡ chosen numbers old new ⌝ }
 {
     match numbers {
         Numbers::Old => old,
@@ -84,10 +118,10 @@ fn refusal(numbers: Numbers, c: Cause) -> usize
         Cause::Wrong => 22,
         Cause::Unsound => 117,
         Cause::Unmapped => 61,
-        Cause::NoRoom => told(numbers, 14, 28),
+        Cause::NoRoom => chosen(numbers, 14, 28),
         Cause::Device => 5,
-        Cause::CopyNoRoom => told(numbers, 14, 28),
-        Cause::CopyDevice => told(numbers, 14, 121),
+        Cause::CopyNoRoom => chosen(numbers, 14, 28),
+        Cause::CopyDevice => chosen(numbers, 14, 121),
         Cause::Erase => 5,
         Cause::Reason(r) => r,
     }

@@ -532,27 +532,44 @@ examples = refl
 
 -- ---- 02, M-101: the new numbers
 
--- E4 before its collection: all segments full, segment 0 queued; and segment 0 full and queued, its pages dead, with segment 1 free
-brimming : Recorder
-brimming =
-    mem
-    (tables (three 3 1 2) (two 0 0) (two 1 2) (four 1 1 1 1) (four 1 0 2 0) (two 1 2) (two 0 0) (two 1 0) 1 1)
-    (flash (fill (four 1 2 3 4)) (four 1 1 1 1) (two 0 0) endless)
-
-told : List Row
-unfolding full brimming litter worn
-told =
-    -- E4: the collection whose copy finds no room gets 28, called by itself, from the list and with a threshold; so does a write then
-    row A brimming (gc ∷ page 0 5 ∷ []) (refused 28 ∷ refused 28 ∷ []) full
-    ∷ row A brimming (gcList 3 ∷ put 0 [] ∷ []) (refused 28 ∷ refused 28 ∷ []) full
-    ∷ row A brimming (gcBelow 0 3 ∷ []) (refused 28 ∷ []) full
-    -- a copy that meets a marked page gets 121, and spends its page
-    ∷ row B (over B (six 0 0 0 0 0 2) endless)
-    (opens ∷ page 0 1 ∷ page 1 2 ∷ page 0 3 ∷ gc ∷ [])
+-- a collection whose copy meets a mark; one whose erase is at its limit
+copy-marked : (Geometry → Call) → Row
+copy-marked c =
+    row B (over B (six 0 0 0 0 0 2) endless)
+    (opens ∷ page 0 1 ∷ page 1 2 ∷ page 0 3 ∷ c ∷ [])
     (moved 0 ∷ moved 4 ∷ moved 4 ∷ moved 4 ∷ refused 121 ∷ [])
     (mem
     (tables (four 2 1 none none) (two 0 2) (two 2 1) (six 1 1 1 1 0 0) (six 1 0 0 0 0 0) (two 2 0) (two 0 0) (two 1 0) 1 0)
     (flash (fill (six 1 2 3 255 255 255)) (six 1 1 1 0 0 2) (two 0 0) endless))
+
+worn-out : (Geometry → Call) → Row
+worn-out c =
+    new (like-A 2 2 1 0)
+    (page 0 1 ∷ page 0 2 ∷ c ∷ [])
+    (moved 4 ∷ moved 4 ∷ refused 5 ∷ [])
+    (mem
+    (tables (three 2 none none) (two 0 1) (two 0 1) (four 1 1 1 0) (four 0 0 0 0) (two 0 1) (two 0 0) (two 1 0) 1 0)
+    (flash (fill (four 1 2 2 255)) (four 1 1 1 0) (two 0 0) endless))
+
+told-table : List Row
+unfolding full litter worn copy-marked worn-out
+told-table =
+    -- E4: the collection whose copy finds no room gets 28, called by itself, from the list and by a threshold; so does a write then
+    new A
+    (page 0 1 ∷ page 1 2 ∷ page 2 3 ∷ page 0 4 ∷ gc ∷ page 0 5 ∷ [])
+    (moved 4 ∷ moved 4 ∷ moved 4 ∷ moved 4 ∷ refused 28 ∷ refused 28 ∷ [])
+    full
+    ∷ new A
+    (page 0 1 ∷ page 1 2 ∷ page 2 3 ∷ page 0 4 ∷ gcList 3 ∷ put 0 [] ∷ [])
+    (moved 4 ∷ moved 4 ∷ moved 4 ∷ moved 4 ∷ refused 28 ∷ refused 28 ∷ [])
+    full
+    ∷ new A
+    (page 0 1 ∷ page 1 2 ∷ page 2 3 ∷ page 0 4 ∷ gcBelow 0 3 ∷ [])
+    (moved 4 ∷ moved 4 ∷ moved 4 ∷ moved 4 ∷ refused 28 ∷ [])
+    full
+    -- a copy that meets a marked page gets 121, by a threshold too, and spends its page
+    ∷ copy-marked gc
+    ∷ copy-marked (gcBelow 3 3)
     -- so does one that the fuse refuses, from the list; a write that the device refuses gets 5 as before
     ∷ row B (over B (six 2 0 0 0 0 0) 4)
     (opens ∷ page 3 9 ∷ page 3 2 ∷ page 1 3 ∷ page 1 10 ∷ page 0 11 ∷ gcList 3 ∷ [])
@@ -560,13 +577,10 @@ told =
     (mem
     (tables (four 5 4 none 1) (two 0 0) (two 2 3) (six 1 1 1 1 1 1) (six 3 0 0 1 0 0) (two 1 2) (two 0 0) (two 1 0) 1 0)
     (flash (fill (six 255 2 3 10 11 255)) (six 2 1 1 1 1 0) (two 0 0) 0))
-    -- an erase at its limit gets 5 as before
-    ∷ new (like-A 2 2 1 0)
-    (page 0 1 ∷ page 0 2 ∷ gc ∷ [])
-    (moved 4 ∷ moved 4 ∷ refused 5 ∷ [])
-    (mem
-    (tables (three 2 none none) (two 0 1) (two 0 1) (four 1 1 1 0) (four 0 0 0 0) (two 0 1) (two 0 0) (two 1 0) 1 0)
-    (flash (fill (four 1 2 2 255)) (four 1 1 1 0) (two 0 0) endless))
+    -- an erase at its limit gets 5 as before, called in each way
+    ∷ worn-out gc
+    ∷ worn-out (gcList 3)
+    ∷ worn-out (gcBelow 9 3)
     -- all segments bad, though pages are free: 28 where the victim has a listed page, 0 where it has none; a write gets 28
     ∷ with-bad (two 9 9)
     (row A
@@ -603,6 +617,6 @@ told =
     (flash (replicate 28 3) (1 ∷ []) (0 ∷ []) endless))
     ∷ []
 
-examples-told : map (seen New) told ≡ map (λ r. r .is) told
-unfolding seen told
+examples-told : map (seen New) told-table ≡ map (λ r. r .is) told-table
+unfolding seen told-table
 examples-told = refl

@@ -10,7 +10,7 @@ use lib.ListN.{length, take, getD-replicate}
 use lib.Seq.{getD-set-other, length-take-le}
 use borrow.Author.Tests.{eqb-true, eqb-false, ltb-true, leb-true, not-false}
 use Rattle.model.specs.Lists.{slot, splice, total, blank}
-use Rattle.model.specs.Numbers.{Geometry, Good, good?, logicalPage, offset, Answer, Moved, Refused, Cause, Wrong, Unsound, Unmapped, NoRoom, Device, Erase, Reason}
+use Rattle.model.specs.Numbers.{Geometry, Good, good?, logicalPage, offset, Answer, Moved, Refused, Cause, Wrong, Unsound, Unmapped, Erase, Reason}
 use Rattle.model.specs.Causes.{kindOf}
 use Rattle.model.specs.Tables.{Tables, at}
 use Rattle.model.specs.Device.{Flash, State, state, Out, out, clearUp, mayProgram, mayErase, raised, blanked, EraseSeg, finish, refuse, behind, goOn, formatFrom}
@@ -23,7 +23,7 @@ use Rattle.model.specs.Entry.{formatting, opening, read, write, collecti
 use Rattle.model.specs.History.{Call, Format, Open, Read, Write, Collect, CollectList, CollectThreshold, Encode, Restore}
 use Rattle.model.specs.History.{run, after, Begins, IsRefused, InService, delivered, called, lent-fuse, AtProgramming, OnlyFuse}
 use Rattle.model.specs.Contract.{Fit}
-use Rattle.model.proofs.Causes.{as-copy}
+use Rattle.model.proofs.Causes.{kind-copied}
 use Rattle.model.proofs.Working.{Counted}
 use Rattle.model.proofs.View.{view-packed}
 use Rattle.model.proofs.Entry.{tab, Fits, all-fit, Stayed, Begun, opened-or, restored-or, by-kind}
@@ -101,7 +101,7 @@ module _ (G : Geometry) (K : Good G) (bad : List ℕ) where
 
 copy-only-fuse : (a : Answer) (f : Flash) → OnlyFuse a f → OnlyFuse (copyAnswer a) f
 copy-only-fuse (Moved m) f h = tt
-copy-only-fuse (Refused c) f h = as-copy (λ k. AtProgramming k → f .fuse ≡ 0) (λ _ e. e) c h
+copy-only-fuse (Refused c) f h = kind-copied (λ k. AtProgramming k → f .fuse ≡ 0) (λ _ e. e) c h
 
 module _ (G : Geometry) (K : Good G) (bad : List ℕ) where
   pub write-only-fuse : (st : State) → Counted G (st .tab) → Fit G (st .flash) → Ordered G st → (l off : ℕ) (d : List ℕ)

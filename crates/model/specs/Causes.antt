@@ -1,6 +1,6 @@
--- Where a call is refused. A set of causes is said by their kinds, so that one more cause is placed here, once.
+-- Where a call is refused. A set of causes is a set of their kinds.
 use Prim.Native.Nat.{ℕ}
-use Rattle.model.specs.Numbers.{Cause, Wrong, Unsound, Unmapped, NoRoom, Device, CopyNoRoom, CopyDevice, Erase, Reason}
+use Rattle.model.specs.Numbers.{Answer, Moved, Refused, Cause, Wrong, Unsound, Unmapped, NoRoom, Device, CopyNoRoom, CopyDevice, Erase, Reason}
 
 -- 02, M-101: "whether a copy failed for room (28) or at the device (121)"; a write fails in the same two ways
 pub data Failing : Type 0 where
@@ -31,7 +31,16 @@ abbrev pub AtDevice : Failing → Type 0
 AtDevice for-room = ⊥
 AtDevice at-device = Unit {0}
 
--- what is said of a reason alone
+-- a copy's
+abbrev pub ByCopy : Kind → Type 0
+ByCopy in-tests = ⊥
+ByCopy in-read = ⊥
+ByCopy (in-write f) = ⊥
+ByCopy (in-copy f) = Unit {0}
+ByCopy in-erase = ⊥
+ByCopy (in-file r) = ⊥
+
+-- what is said of a reason alone: of a kind, and of an answer
 abbrev pub OfReason : (ℕ → Type 0) → Kind → Type 0
 OfReason P in-tests = Unit {0}
 OfReason P in-read = Unit {0}
@@ -39,3 +48,7 @@ OfReason P (in-write f) = Unit {0}
 OfReason P (in-copy f) = Unit {0}
 OfReason P in-erase = Unit {0}
 OfReason P (in-file r) = P r
+
+abbrev pub ReasonsIn : (ℕ → Type 0) → Answer → Type 0
+ReasonsIn P (Moved m) = Unit {0}
+ReasonsIn P (Refused c) = OfReason P (kindOf c)

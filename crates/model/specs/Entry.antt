@@ -48,7 +48,7 @@ pub record PromiseIn (N : Numbers) (o : Outcome) (left : Lent) (r : ℤ) : Type 
   pub left-is : left ≡ o .left
   pub answer-is : r ≡ number N (o .answer)
 
--- of an entry whose numbers no choice changes
+-- in 01's numbers
 abbrev pub Promise : Outcome → Lent → ℤ → Type 0
 Promise = PromiseIn Old
 

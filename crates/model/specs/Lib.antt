@@ -1,4 +1,4 @@
--- What document 01 says, as definitions that compute. Each carries the sentence that it says, in quotation marks.
+-- What document 01, and 02 as far as it has landed, say, as definitions that compute. Each carries the sentence that it says, in quotation marks.
 pub mod Lists
 pub mod Numbers
 pub mod Causes

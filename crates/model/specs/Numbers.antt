@@ -1,4 +1,4 @@
--- Document 01, "Geometry and numbers".
+-- Document 01, "Geometry and numbers"; 02, M-101, its numbers.
 use Prim.Native.Nat.{ℕ, zero, suc, _+_, _*_, _^_, _/_, _%_, _≤_}
 use mathlib.Core.Bool.{Bool, cond}
 use mathlib.Core.List.{List, [], _∷_}
@@ -81,9 +81,9 @@ module _ (G : Geometry) where
   offset sector = sector % G.s
 
 -- 02, M-101: "The old numbers stay under a named old choice"
-abbrev pub told : Numbers → (old new : ℕ) → ℕ
-told Old old new = old
-told New old new = new
+abbrev pub chosen : Numbers → (old new : ℕ) → ℕ
+chosen Old old new = old
+chosen New old new = new
 
 -- The numbers of the table in "What a call answers", and the reasons of "Checkpoint". 02, M-101: "A write without room gets 28; a collection says
 -- whether a copy failed for room (28) or at the device (121)."
@@ -91,10 +91,10 @@ abbrev pub refusal : Numbers → Cause → ℕ
 refusal N Wrong = 22
 refusal N Unsound = 117
 refusal N Unmapped = 61
-refusal N NoRoom = told N 14 28
+refusal N NoRoom = chosen N 14 28
 refusal N Device = 5
-refusal N CopyNoRoom = told N 14 28
-refusal N CopyDevice = told N 14 121
+refusal N CopyNoRoom = chosen N 14 28
+refusal N CopyDevice = chosen N 14 121
 refusal N Erase = 5
 refusal N (Reason r) = r
 

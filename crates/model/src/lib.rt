@@ -16,15 +16,18 @@ pub struct LogicalPage(pub usize);
 
 pub struct PhysicalAddress(pub u32);
 
-// What finding a page gives: page k of segment g, or that no segment outside the bad list has a free page (`found`, `Full` in proofs/Find.antt).
+// What finding a page gives: page k of segment g; on sound tables `Nothing` exactly when no segment outside the bad list has a free page (`found`,
+// proofs/Find.antt).
 pub enum Found {
     At(usize, usize),
     Nothing,
 }
 
-// The choice of numbers: 01's, or those of 02, M-101, which tell a refusal for room (28) and a copy's at the device (121) from a bad address (14).
+// The choice of numbers (02, M-101).
 pub enum Numbers {
+    // 01's: 14 for no room, and for a copy that failed.
     Old,
+    // 28 for no room, a write's or a copy's; 121 for a copy at the device.
     New,
 }
 
@@ -40,7 +43,7 @@ pub enum Cause {
     NoRoom,
     // A write: the device refused the programming; the page found is spent.
     Device,
-    // A collection: what its copy, a write, was refused for, passed on.
+    // A collection: the same two of its copy, which is a write.
     CopyNoRoom,
     CopyDevice,
     // A collection: the erase was refused.

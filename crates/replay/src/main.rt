@@ -14,7 +14,7 @@ use std::num::wrapping_add_u64;
 const ENDLESS: u64 = 18446744073709551615;
 
 // The steps that are no call. The nine calls are 4 format, 5 open, 6 read, 7 write, 8 collect, 9 from the list, 10 with a threshold,
-// 11 encode, 12 restore.
+// 11 encode, 12 restore; 13 to 16 are 7 to 10 in the new numbers.
 const END: usize = 0;
 
 const LENGTH: usize = 1;
@@ -23,7 +23,9 @@ const POKE: usize = 2;
 
 const FUSE: usize = 3;
 
-const LAST_CALL: usize = 12;
+const LAST_OLD: usize = 12;
+
+const LAST_CALL: usize = 16;
 
 // The place after what was read.
 enum Place {
@@ -219,9 +221,26 @@ fn digest(
     !crc32::update(c10, taken)
 }
 
+// The numbers in which a step's call answers.
+fn numbers_in(op: usize) -> Numbers {
+    if LAST_OLD < op {
+        return Numbers::New;
+    }
+    Numbers::Old
+}
+
+// The step that makes the same call in the old numbers.
+fn in_old(op: usize) -> usize {
+    if LAST_OLD < op {
+        return op - 6;
+    }
+    op
+}
+
 // The collections: one, from the list, with a threshold.
 fn gather(
     geo: Geometry,
+    numbers: Numbers,
     op: usize,
     a: usize,
     b: usize,
@@ -239,7 +258,7 @@ fn gather(
     if op == 8 {
         return ftl::collect(
             geo,
-            Numbers::Old,
+            numbers,
             bad,
             tab,
             used,
@@ -255,7 +274,7 @@ fn gather(
     if op == 9 {
         return ftl::collect_list(
             geo,
-            Numbers::Old,
+            numbers,
             a,
             bad,
             tab,
@@ -271,7 +290,7 @@ fn gather(
     }
     ftl::collect_threshold(
         geo,
-        Numbers::Old,
+        numbers,
         a as u64,
         b,
         bad,
@@ -287,9 +306,10 @@ fn gather(
     )
 }
 
-// The call of a step. The buffer is a write's bytes, a read's room, an encoding's room and a restore's file.
+// The call of steps 4 to 12, in these numbers. The buffer is a write's bytes, a read's room, an encoding's room and a restore's file.
 fn call(
     geo: Geometry,
+    numbers: Numbers,
     op: usize,
     a: usize,
     b: usize,
@@ -312,7 +332,7 @@ fn call(
         6 => ftl::read(geo, a, b, tab, used, bytes, buffer, seen),
         7 => ftl::write(
             geo,
-            Numbers::Old,
+            numbers,
             a,
             b,
             buffer,
@@ -330,6 +350,7 @@ fn call(
         12 => ftl::restore(geo, buffer, tab, used, taken),
         _ => gather(
             geo,
+            numbers,
             op,
             a,
             b,
@@ -366,7 +387,8 @@ fn called(
 ) -> Found {
     let answer = call(
         geo,
-        step.op,
+        numbers_in(step.op),
+        in_old(step.op),
         step.a,
         step.b,
         tab,

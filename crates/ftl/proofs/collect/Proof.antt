@@ -21,7 +21,7 @@ use Rattle.ftl.proofs.collect.Statement.{statement}
 use Rattle.ftl.proofs.collect.Tie as tie
 use Rattle.ftl.proofs.collect.Reads as reads
 use Rattle.ftl.proofs.collect.Lts as lts
-use Rattle.ftl.proofs.all_fit.Reads as all-fit-reads
+use Rattle.guard.proofs.all_fit.Reads as all-fit-reads
 use Rattle.guard.proofs.clean_words.Reads as clean-words-reads
 use Rattle.guard.proofs.number.Reads as number-reads
 use Rattle.page_gc.proofs.collect.Reads as collect-reads

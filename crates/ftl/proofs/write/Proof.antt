@@ -23,7 +23,7 @@ use Rattle.ftl.proofs.write.Statement.{statement}
 use Rattle.ftl.proofs.write.Tie as tie
 use Rattle.ftl.proofs.write.Reads as reads
 use Rattle.ftl.proofs.write.Lts as lts
-use Rattle.ftl.proofs.all_fit.Reads as all-fit-reads
+use Rattle.guard.proofs.all_fit.Reads as all-fit-reads
 use Rattle.guard.proofs.number.Reads as number-reads
 use Rattle.page_write.proofs.write_page.Reads as write-page-reads
 use Rattle.sound.proofs.good.Reads as good-reads

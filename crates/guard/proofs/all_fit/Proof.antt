@@ -2,15 +2,15 @@
 use mathlib.Core.Path.{refl, sym}
 use lib.ListN.{length}
 use borrow.Author.Tests.{eq-eqb, ne-eqb, not-true, not-false}
 use Rattle.guard.proofs.And.{and-fails, and-passes}
 use borrow.Author.Needs.{needs}
-use Rattle.ftl.proofs.all_fit.Statement.{statement}
-use Rattle.ftl.proofs.all_fit.Tie as tie
-use Rattle.ftl.proofs.all_fit.Reads as reads
-use Rattle.ftl.proofs.all_fit.Lts as lts
+use Rattle.guard.proofs.all_fit.Statement.{statement}
+use Rattle.guard.proofs.all_fit.Tie as tie
+use Rattle.guard.proofs.all_fit.Reads as reads
+use Rattle.guard.proofs.all_fit.Lts as lts
 use Rattle.guard.proofs.clean.Reads as clean-reads
 use Rattle.guard.proofs.flash_fits.Reads as flash-fits-reads
 use Rattle.guard.proofs.tables_fit.Reads as tables-fit-reads
 
 -- places: each test passed, from the next one's
 abbrev tables : tie.After-flash-fits → tie.Else1

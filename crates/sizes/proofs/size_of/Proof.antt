@@ -3,12 +3,12 @@ use mathlib.Core.Path.{_≡_, sym, ap, _∙_}
 use native.Mathlib.Omega.{arith}
 use native.Mathlib.Nat.{mul-le-mul}
 use Rattle.model.proofs.Held.{slots}
-use Rattle.ffi.specs.Sizes.{Size, sizeOf}
+use Rattle.sizes.specs.Sizes.{Size, sizeOf}
 use borrow.Author.Needs.{needs}
-use Rattle.ffi.proofs.size_of.Statement.{statement}
-use Rattle.ffi.proofs.size_of.Tie as tie
-use Rattle.ffi.proofs.size_of.Reads as reads
-use Rattle.ffi.proofs.size_of.Lts as lts
+use Rattle.sizes.proofs.size_of.Statement.{statement}
+use Rattle.sizes.proofs.size_of.Tie as tie
+use Rattle.sizes.proofs.size_of.Reads as reads
+use Rattle.sizes.proofs.size_of.Lts as lts
 use Rattle.checkpoint.proofs.file_size.Reads as file-size-reads
 
 -- the place of a sum of words, seen from the entry

@@ -5,11 +5,11 @@ use borrow.Author.Tests.{not-true, not-false}
 use Rattle.model.specs.Numbers.{good?}
 use Rattle.model.proofs.Guard.{good-test}
 use borrow.Author.Needs.{needs}
-use Rattle.ffi.proofs.sized.Statement.{statement}
-use Rattle.ffi.proofs.sized.Tie as tie
-use Rattle.ffi.proofs.sized.Reads as reads
-use Rattle.ffi.proofs.sized.Lts as lts
-use Rattle.ffi.proofs.size_of.Reads as size-of-reads
+use Rattle.sizes.proofs.sized.Statement.{statement}
+use Rattle.sizes.proofs.sized.Tie as tie
+use Rattle.sizes.proofs.sized.Reads as reads
+use Rattle.sizes.proofs.sized.Lts as lts
+use Rattle.sizes.proofs.size_of.Reads as size-of-reads
 use Rattle.sound.proofs.good.Reads as good-reads
 
 -- the geometry refused, and passed

@@ -6,7 +6,7 @@ use Rattle.model.specs.Numbers.{good?}
 use Rattle.model.specs.Tables.{tabWords, pages}
 use Rattle.model.specs.Checkpoint.{fileSize}
 use Rattle.model.specs.Entry.{pageScratch, seenScratch}
-pub use Rattle.ffi.specs.declared.Size.{Size}
+pub use Rattle.sizes.specs.declared.Size.{Size}
 
 abbrev pub sizeOf : Geometry → Size → ℕ
 sizeOf G Size.TabWords = tabWords G
