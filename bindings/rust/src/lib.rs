@@ -16,7 +16,7 @@
 //! let mut unit = OwnedFtl::new(geo)?;
 //! unit.format()?;
 //! unit.open()?;
-//! unit.write(5, b"1.32")?;
+//! unit.write_told(5, b"1.32")?;
 //! let file = unit.checkpoint()?;
 //! unit.restore(&file)?;
 //! let mut out = [0; 4];

@@ -3,6 +3,7 @@ use core::fmt;
 
 /// A call's refusal. Restoring answers `Wrong` or `Reason`, and no other call answers `Reason`.
 #[derive(Clone, Copy, Debug, PartialEq, Eq)]
+#[non_exhaustive]
 pub enum Refusal {
     /// 5. Write: the device refused the programming, since the page's mark or that of a higher page of its segment is set or the fuse is
     /// out, and the page found is spent. Collection: it refused the erase.

@@ -24,7 +24,7 @@ fn beside(unit: &OwnedFtl, (old, told): (Call, Call)) -> Result<usize, Refusal> 
     is
 }
 
-/// A unit with whole pages written, each call beside its told one.
+/// A unit with these marks set and these whole pages written.
 fn after(geo: Geometry, marks: &[u8], list: &[usize]) -> OwnedFtl {
     let mut unit = OwnedFtl::new(geo).unwrap();
     unit.format().unwrap();
