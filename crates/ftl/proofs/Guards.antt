@@ -1,11 +1,11 @@
 -- How an entry's first tests end: the geometry's, and those of the sizes behind it.
 use Prim.Native.Nat.{ℕ}
-use mathlib.Core.Path.{_≡_, refl, sym, ap, _∙_, subst}
+use mathlib.Core.Path.{_≡_, refl, sym, subst}
 use mathlib.Core.Bool.{Bool, true, false, _&&_}
 use mathlib.Core.List.{List, [], _∷_}
 use lib.IntN.{ℤ}
 use lib.Dec.{eqb}
-use lib.ListN.{length, getD}
+use lib.ListN.{length}
 use Rattle.model.specs.Lists.{every, blank, zeros}
 use Rattle.model.specs.declared.Geometry.{Geometry}
 use Rattle.model.specs.declared.Numbers.{Numbers}
@@ -14,17 +14,13 @@ use Rattle.model.specs.declared.Cause.the-variants.{Wrong}
 use Rattle.model.specs.declared.Answer.the-variants.{Refused}
 use Rattle.model.specs.Numbers.{good?, number}
 use Rattle.model.specs.Entry.{Lent, Outcome, PromiseIn, refused, unless, guarded, clean}
-use Rattle.model.proofs.Refusals.{every-not, promised, guarded-sizes}
+use Rattle.model.proofs.Refusals.{promised, guarded-sizes}
 use Rattle.model.proofs.Guard.{both}
 use Rattle.ftl.proofs.Passing.{clean-zeros}
 
 -- a promise of an outcome is one of the same outcome by another name
 pub by : {N : Numbers} {o o′ : Outcome} {y : Lent} {r : ℤ} → o ≡ o′ → PromiseIn N o′ y r → PromiseIn N o y r
 by {N} {y = y} {r = r} e = subst (λ o. PromiseIn N o y r) (sym e)
-
--- a test that answers what it should, and what it answered
-pub told : {r t b : Bool} → r ≡ t → r ≡ b → t ≡ b
-told e f = sym e ∙ f
 
 -- refused by a test behind the guard
 pub unless-fails : (b : Bool) (c : Cause) (x : Lent) (o : Outcome) → b ≡ false → unless b c x o ≡ refused c x
@@ -52,22 +48,6 @@ module _ (G : Geometry) (ts : List Bool) where
 
     pub bad-size : {N : Numbers} → every ts ≡ false → PromiseIn N (guarded (every (good? G ∷ ts)) b c d x o) x (number N (Refused Wrong))
     bad-size e = by (guarded-sizes (every (good? G ∷ ts)) b c d x o (not-sizes e)) (promised refl)
-
--- a row of tests: one that fails, one that passes, and the last, of scratch
-pub fails : (bs : List Bool) (i : ℕ) → getD bs i true ≡ false → false ≡ every bs
-fails bs i e = sym (every-not bs i e)
-
-pub rest : {r : Bool} (b : Bool) (bs : List Bool) → b ≡ true → r ≡ every bs → r ≡ every (b ∷ bs)
-unfolding every
-rest b bs e f = f ∙ sym (ap (λ (c : Bool). c && every bs) e)
-
-and-true : (b : Bool) → (b && true) ≡ b
-and-true true = refl
-and-true false = refl
-
-pub scratch-test : {r : Bool} (k : ℕ) (s : List ℕ) → r ≡ (eqb (length s) k && blank s) → r ≡ every (clean (k ∷ []) (s ∷ []) ∷ [])
-unfolding every clean
-scratch-test k s e = e ∙ sym (and-true ((eqb (length s) k && blank s) && true) ∙ and-true (eqb (length s) k && blank s))
 
 -- clean scratch is zeros
 pub clean-is : (k : ℕ) (s : List ℕ) → clean (k ∷ []) (s ∷ []) ≡ true → s ≡ zeros k

@@ -2,7 +2,7 @@
 ghost use mathlib.Core.Path.{_≡_};
 ghost use mathlib.Core.List.{[], _∷_};
 ghost use Prim.Native.Nat.{_+_, _*_, _<_, _≤_};
-ghost use lib.Dec.{leb, eqb};
+ghost use lib.Dec.{leb};
 ghost use lib.ListN.{length, take, drop};
 ghost use Rattle.model.specs.Lists.{every, slot, splice};
 ghost use Rattle.model.specs.Numbers.{Good, flat};
@@ -56,36 +56,6 @@ pub fn open(geo: Geometry, tab: &mut [u32], used: &mut [u8]) -> i64
     0
 }
 
-// What reading tests beside the geometry: the tables, the flash's bytes, the buffer, and scratch for the soundness test.
-fn read_fits(
-    geo: Geometry,
-    len: usize,
-    tab: &[u32],
-    used: &[u8],
-    bytes: &[u8],
-    out: &[u8],
-    seen: &[u8],
-) -> bool
-    requires { ⌜ Good geo ⌝ }
-    ensures { λ r. ⌜ r ≡ every
-        (tablesFit geo (lent (recorder (now (tab .entry)) (now (used .entry)) noFlash) [] [])
-        ∷ eqb (length (now (bytes .entry))) (pages geo * geo .s)
-        ∷ leb len (length (now (out .entry)))
-        ∷ clean (seenScratch geo ∷ []) (now (seen .entry) ∷ [])
-        ∷ []) ⌝ }
-{
-    if !guard::tables_fit(geo, tab, used) {
-        return false;
-    }
-    if !guard::bytes_fit(geo, bytes) {
-        return false;
-    }
-    if out.len() < len {
-        return false;
-    }
-    guard::clean(seen, geo.n + geo.p)
-}
-
 // The bytes of the page at address a from the offset on, laid into the buffer's front.
 fn show(geo: Geometry, a: PhysicalAddress, off: usize, len: usize, bytes: &[u8], out: &mut [u8])
     requires { ⌜ Good geo ⌝ }
@@ -117,7 +87,7 @@ pub fn read(
     if !sound::good(geo) {
         return -22;
     }
-    if !read_fits(geo, length, tab, used, bytes, out, seen) {
+    if !guard::read_fits(geo, length, tab, used, bytes, out, seen) {
         return -22;
     }
     if !sound::sound(geo, tab, used, seen) {
@@ -370,20 +340,6 @@ pub fn encode(geo: Geometry, tab: &[u32], used: &[u8], buffer: &mut [u8], seen: 
     checkpoint::file_size(geo) as i64
 }
 
-// What restoring tests beside the geometry: the tables, and scratch for the marks of the pages taken.
-fn restore_fits(geo: Geometry, tab: &[u32], used: &[u8], taken: &[u8]) -> bool
-    requires { ⌜ Good geo ⌝ }
-    ensures { λ r. ⌜ r ≡ every
-        (tablesFit geo (lent (recorder (now (tab .entry)) (now (used .entry)) noFlash) [] [])
-        ∷ clean (pages geo ∷ []) (now (taken .entry) ∷ [])
-        ∷ []) ⌝ }
-{
-    if !guard::tables_fit(geo, tab, used) {
-        return false;
-    }
-    guard::clean(taken, geo.n * geo.p)
-}
-
 // Restoring: the nine reasons first, then the tables are those of the file.
 pub fn restore(
     geo: Geometry,
@@ -399,7 +355,7 @@ pub fn restore(
     if !sound::good(geo) {
         return -22;
     }
-    if !restore_fits(geo, tab, used, taken) {
+    if !guard::restore_fits(geo, tab, used, taken) {
         return -22;
     }
     let why = checkpoint::reason(geo, file);

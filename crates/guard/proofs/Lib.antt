@@ -1,2 +1,3 @@
 pub mod And
 pub mod Signed
+pub mod Rows

@@ -1,12 +1,14 @@
 // What the public entries test first, and the number of an answer.
 ghost use mathlib.Core.Path.{_≡_};
 ghost use mathlib.Core.Bool.{_&&_};
+ghost use mathlib.Core.List.{[], _∷_};
 ghost use Prim.Native.Nat.{_+_, _*_, _<_};
-ghost use lib.Dec.{eqb};
+ghost use lib.Dec.{leb, eqb};
 ghost use lib.ListN.{length};
-ghost use Rattle.model.specs.Lists.{blank};
+ghost use Rattle.model.specs.Lists.{every, blank};
 ghost use Rattle.model.specs.Numbers.{Good, chosen, refusal, negated, number};
 ghost use Rattle.model.specs.Tables.{tabWords, pages};
+ghost use Rattle.model.specs.Entry.{recorder, lent, noFlash, tablesFit, clean, seenScratch};
 ghost use Rattle.guard.specs.Countable.{Known, Countable};
 use model::Answer;
 use model::Cause;
@@ -97,6 +99,50 @@ pub fn all_fit(
         return false;
     }
     clean(seen, geo.n + geo.p)
+}
+
+// What reading tests beside the geometry: the tables, the flash's bytes, the buffer, and scratch for the soundness test.
+pub fn read_fits(
+    geo: Geometry,
+    len: usize,
+    tab: &[u32],
+    used: &[u8],
+    bytes: &[u8],
+    out: &[u8],
+    seen: &[u8],
+) -> bool
+    requires { ⌜ Good geo ⌝ }
+    ensures { λ r. ⌜ r ≡ every
+        (tablesFit geo (lent (recorder (now (tab .entry)) (now (used .entry)) noFlash) [] [])
+        ∷ eqb (length (now (bytes .entry))) (pages geo * geo .s)
+        ∷ leb len (length (now (out .entry)))
+        ∷ clean (seenScratch geo ∷ []) (now (seen .entry) ∷ [])
+        ∷ []) ⌝ }
+{
+    if !tables_fit(geo, tab, used) {
+        return false;
+    }
+    if !bytes_fit(geo, bytes) {
+        return false;
+    }
+    if out.len() < len {
+        return false;
+    }
+    clean(seen, geo.n + geo.p)
+}
+
+// What restoring tests beside the geometry: the tables, and scratch for the marks of the pages taken.
+pub fn restore_fits(geo: Geometry, tab: &[u32], used: &[u8], taken: &[u8]) -> bool
+    requires { ⌜ Good geo ⌝ }
+    ensures { λ r. ⌜ r ≡ every
+        (tablesFit geo (lent (recorder (now (tab .entry)) (now (used .entry)) noFlash) [] [])
+        ∷ clean (pages geo ∷ []) (now (taken .entry) ∷ [])
+        ∷ []) ⌝ }
+{
+    if !tables_fit(geo, tab, used) {
+        return false;
+    }
+    clean(taken, geo.n * geo.p)
 }
 
 // The number by the choice: document 01's, or that of 02, M-101.

@@ -16,7 +16,8 @@ use Rattle.model.specs.Sound.{soundb}
 use Rattle.model.specs.Entry.{Lent, lent, recorder, noFlash, tablesOf, seenScratch}
 use Rattle.model.proofs.Guard.{each, good-test, tables-test}
 use Rattle.model.specs.Checkpoint.{fileSize}
-use Rattle.ftl.proofs.Guards.{told, clean-is}
+use Rattle.guard.proofs.Rows.{told}
+use Rattle.ftl.proofs.Guards.{clean-is}
 use Rattle.ftl.proofs.Files.{file-small, encodeTests, encoding-wrong, encoding-size, encoding-unsound, encoding-done}
 use borrow.Author.Needs.{needs}
 use Rattle.ftl.proofs.encode.Statement.{statement}

@@ -7,7 +7,7 @@ use lib.ListN.{length}
 use borrow.Author.Tests.{not-true, not-false, le-leb, lt-leb}
 use Rattle.model.specs.Entry.{Lent, lent, recorder, noFlash, tablesFit, clean, seenScratch}
 use Rattle.model.specs.Checkpoint.{fileSize}
-use Rattle.ftl.proofs.Guards.{told, fails, rest, scratch-test}
+use Rattle.guard.proofs.Rows.{told, fails, rest, scratch-test}
 use borrow.Author.Needs.{needs}
 use Rattle.ftl.proofs.encode_fits.Statement.{statement}
 use Rattle.ftl.proofs.encode_fits.Tie as tie

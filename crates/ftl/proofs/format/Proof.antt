@@ -7,7 +7,7 @@ use Rattle.model.specs.Numbers.{good?}
 use Rattle.model.specs.Device.{Flash, flash}
 use Rattle.model.specs.Entry.{Lent, lent, recorder, flashFits, tablesOf}
 use Rattle.model.proofs.Guard.{good-test, flash-test}
-use Rattle.ftl.proofs.Guards.{told}
+use Rattle.guard.proofs.Rows.{told}
 use Rattle.ftl.proofs.Opening.{formatting-wrong, formatting-size, formatting-done}
 use borrow.Author.Needs.{needs}
 use Rattle.ftl.proofs.format.Statement.{statement}

@@ -6,7 +6,7 @@ use borrow.Author.Tests.{not-true, not-false}
 use Rattle.model.specs.Numbers.{good?}
 use Rattle.model.specs.Entry.{Lent, lent, recorder, noFlash, tablesFit}
 use Rattle.model.proofs.Guard.{good-test, tables-test}
-use Rattle.ftl.proofs.Guards.{told}
+use Rattle.guard.proofs.Rows.{told}
 use Rattle.ftl.proofs.Opening.{opening-wrong, opening-size, opening-done}
 use borrow.Author.Needs.{needs}
 use Rattle.ftl.proofs.open.Statement.{statement}

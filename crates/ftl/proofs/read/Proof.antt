@@ -17,14 +17,15 @@ use Rattle.model.specs.Sound.{soundb}
 use Rattle.model.specs.Device.{flash}
 use Rattle.model.specs.Entry.{Lent, lent, recorder, tablesOf, seenScratch}
 use Rattle.model.proofs.Guard.{each, good-test, tables-test}
-use Rattle.ftl.proofs.Guards.{told, clean-is}
+use Rattle.guard.proofs.Rows.{told}
+use Rattle.ftl.proofs.Guards.{clean-is}
 use Rattle.ftl.proofs.Reading.{readTests, wordRead, read-wrong, read-size, read-in, read-unsound, read-page, read-overrun, read-unmapped, read-done}
 use borrow.Author.Needs.{needs}
 use Rattle.ftl.proofs.read.Statement.{statement}
 use Rattle.ftl.proofs.read.Tie as tie
 use Rattle.ftl.proofs.read.Reads as reads
 use Rattle.ftl.proofs.read.Lts as lts
-use Rattle.ftl.proofs.read_fits.Reads as read-fits-reads
+use Rattle.guard.proofs.read_fits.Reads as read-fits-reads
 use Rattle.ftl.proofs.show.Reads as show-reads
 use Rattle.page_map.proofs.is_empty.Reads as is-empty-reads
 use Rattle.page_map.proofs.word_of.Reads as word-of-reads

@@ -16,7 +16,8 @@ use Rattle.model.specs.Entry.{Lent, lent, recorder, noFlash}
 use Rattle.model.proofs.Guard.{each, good-test, tables-test}
 use Rattle.model.proofs.Sealed.{reason-most}
 use Rattle.guard.proofs.Signed.{small}
-use Rattle.ftl.proofs.Guards.{told, clean-is}
+use Rattle.guard.proofs.Rows.{told}
+use Rattle.ftl.proofs.Guards.{clean-is}
 use Rattle.ftl.proofs.Files.{restoreTests, restoring-wrong, restoring-size, restoring-reason, restoring-done}
 use borrow.Author.Needs.{needs}
 use Rattle.ftl.proofs.restore.Statement.{statement}
@@ -25,7 +26,7 @@ use Rattle.ftl.proofs.restore.Reads as reads
 use Rattle.ftl.proofs.restore.Lts as lts
 use Rattle.checkpoint.proofs.reason.Reads as reason-reads
 use Rattle.checkpoint.proofs.restore.Reads as restore-reads
-use Rattle.ftl.proofs.restore_fits.Reads as restore-fits-reads
+use Rattle.guard.proofs.restore_fits.Reads as restore-fits-reads
 use Rattle.guard.proofs.number.Reads as number-reads
 use Rattle.sound.proofs.good.Reads as good-reads
 

@@ -9,15 +9,15 @@ use lib.Dec.{leb, eqb}
 use borrow.Author.Tests.{not-true, not-false, le-leb, lt-leb}
 use Rattle.model.specs.Tables.{pages}
 use Rattle.model.specs.Entry.{Lent, lent, recorder, noFlash, tablesFit, clean, seenScratch}
-use Rattle.ftl.proofs.Guards.{told, fails, rest, scratch-test}
+use Rattle.guard.proofs.Rows.{told, fails, rest, scratch-test}
 use borrow.Author.Needs.{needs}
-use Rattle.ftl.proofs.read_fits.Statement.{statement}
-use Rattle.ftl.proofs.read_fits.Tie as tie
-use Rattle.ftl.proofs.read_fits.Reads as reads
-use Rattle.ftl.proofs.read_fits.Lts as lts
+use Rattle.guard.proofs.read_fits.Statement.{statement}
+use Rattle.guard.proofs.read_fits.Tie as tie
+use Rattle.guard.proofs.read_fits.Reads as reads
+use Rattle.guard.proofs.read_fits.Lts as lts
 use Rattle.guard.proofs.bytes_fit.Reads as bytes-fit-reads
 use Rattle.guard.proofs.clean.Reads as clean-reads
 use Rattle.guard.proofs.tables_fit.Reads as tables-fit-reads
 
 -- places
 abbrev at-start-1 : tie.After-tables-fit → tie.After-shared-slice-known2

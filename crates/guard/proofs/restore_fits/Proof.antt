@@ -6,14 +6,14 @@ use borrow.Author.Tests.{not-true, not-false}
 use Rattle.model.specs.Entry.{Lent, lent, recorder, noFlash, tablesFit, clean}
 use Rattle.model.specs.Tables.{pages}
 use Rattle.model.proofs.Held.{slots}
-use Rattle.ftl.proofs.Guards.{told, fails, rest, scratch-test}
+use Rattle.guard.proofs.Rows.{told, fails, rest, scratch-test}
 use borrow.Author.Needs.{needs}
-use Rattle.ftl.proofs.restore_fits.Statement.{statement}
-use Rattle.ftl.proofs.restore_fits.Tie as tie
-use Rattle.ftl.proofs.restore_fits.Reads as reads
-use Rattle.ftl.proofs.restore_fits.Lts as lts
+use Rattle.guard.proofs.restore_fits.Statement.{statement}
+use Rattle.guard.proofs.restore_fits.Tie as tie
+use Rattle.guard.proofs.restore_fits.Reads as reads
+use Rattle.guard.proofs.restore_fits.Lts as lts
 use Rattle.guard.proofs.clean.Reads as clean-reads
 use Rattle.guard.proofs.tables_fit.Reads as tables-fit-reads
 
 -- places
 abbrev at-start : tie.After-tables-fit → tie.Start
