@@ -59,6 +59,7 @@ enum shr_reason {
  * A slice is a pointer and its length in elements. Lent sizes are exact:
  *   tab  e + 5n + 2 + n*p words: map (e), free (n), valid (n), lens (n), queue (n), flags (n), alloc, queued, lists (n*p)
  *   used n*p   bytes n*p*s   marks n*p   counts n words   bad n
+ *   (take them from shr_tab_words and the others below: a later library may need more words, and answers -SHR_WRONG to a size written down)
  *   scratch, all zero before and after: page s   seen n + p   order n words   taken n*p
  * and at least: out `length`, xs `len`, buffer 44 + 4e + 4n.
  *
@@ -82,7 +83,8 @@ int64_t shr_read(size_t n, size_t p, size_t s, size_t w, size_t e, size_t limit,
                  const uint32_t *tab, size_t tab_len, const uint8_t *used, size_t used_len,
                  const uint8_t *bytes, size_t bytes_len, uint8_t *out, size_t out_len, uint8_t *seen, size_t seen_len);
 
-/* Writes `len` bytes at a sector, a byte position, inside one logical page. The page's other bytes stay; at its first write they become
+/* This and the three collections answer in the old numbers; in the new ones, for new programs: shr_write_told, shr_collect_told, ...
+ * Writes `len` bytes at a sector, a byte position, inside one logical page. The page's other bytes stay; at its first write they become
  * zero (and not 255). Spends one page. Answers the length. */
 int64_t shr_write(size_t n, size_t p, size_t s, size_t w, size_t e, size_t limit,
                   size_t sector, size_t len, const uint8_t *xs, size_t xs_len, const uint8_t *bad, size_t bad_len,
@@ -111,11 +113,8 @@ int64_t shr_collect_threshold(size_t n, size_t p, size_t s, size_t w, size_t e, 
                               uint32_t *counts, size_t counts_len, uint64_t *fuse, uint8_t *page, size_t page_len,
                               uint8_t *seen, size_t seen_len, uint32_t *order, size_t order_len);
 
-/*
- * The same four calls in the numbers that tell a full device from a refusing one, for new programs: where a write above answers
- * -SHR_NO_ROOM, its told call answers -SHR_FULL; where a collection does, -SHR_FULL or -SHR_COPY_DEVICE. Every other answer, and all that
- * a call leaves, is the same.
- */
+/* The same four calls in the new numbers: -SHR_FULL where a write above answers -SHR_NO_ROOM, -SHR_FULL or -SHR_COPY_DEVICE where a
+ * collection does. Every other answer, and all that a call leaves, is the same. */
 int64_t shr_write_told(size_t n, size_t p, size_t s, size_t w, size_t e, size_t limit,
                        size_t sector, size_t len, const uint8_t *xs, size_t xs_len, const uint8_t *bad, size_t bad_len,
                        uint32_t *tab, size_t tab_len, uint8_t *used, size_t used_len,

@@ -10,7 +10,7 @@
 //! extremes (right geometries at their limits), words (all tables of tiny devices), numbers
 //! (sizes and CRC-32), and those of `PARTS`. A difference is printed with the shortest run
 //! that still shows it, and the exit status is 1.
-//! `--announce` prints each call before it is made, for a port that would not return.
+//! `--announce` prints each call before it is made (its told call follows unannounced), for a port that would not return.
 
 #[path = "plain.rs"]
 mod plain;

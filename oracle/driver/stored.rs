@@ -1212,7 +1212,7 @@ const OWED: [&[i64]; 13] = [
 const OFTEN: usize = 5;
 
 /// Prints how often each answer was given; false when one that is owed is too rare.
-fn told(book: &Book) -> bool {
+fn tally(book: &Book) -> bool {
     let mut enough = true;
     for (kind, owed) in OWED.iter().enumerate() {
         let count = |answer: &i64| book.answers.get(&(kind, *answer)).copied().unwrap_or(0);
@@ -1233,7 +1233,7 @@ fn main() {
         kind(&mut book, &mut Rng::new(seed as u64 + 1));
         println!("{name:18}{} cases, {} bytes", book.cases - before.0, book.file.len() - before.1);
     }
-    assert!(told(&book), "an answer that is owed is too rare, or one is unknown");
+    assert!(tally(&book), "an answer that is owed is too rare, or one is unknown");
     let Book { cases, calls, beside, .. } = book;
     println!("{cases} cases, {calls} calls, {beside} of them made by the originals too, {} bytes", book.file.len());
     assert!(book.file.len() <= 262_144, "the file is too long");

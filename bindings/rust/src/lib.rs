@@ -165,7 +165,7 @@ pub struct Ftl<'a> {
     pub scratch: Scratch<'a>,
 }
 
-// A write, and a collection with its own numbers, by a raw call of that name. In these and in every call below each lent part is a borrow of
+// A write, and a collection with its threshold and m, by a raw call of that name. In these and in every call below each lent part is a borrow of
 // its own, so its pointer is not null and aligned, and no two overlap. That is all the library cannot find out by itself.
 #[rustfmt::skip]
 macro_rules! writes {

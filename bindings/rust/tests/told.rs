@@ -10,9 +10,12 @@ type Call = fn(&mut OwnedFtl) -> Result<usize, Refusal>;
 const WRITE: (Call, Call) = (|u| u.write(0, &[7]), |u| u.write_told(0, &[7]));
 const COLLECTIONS: [(Call, Call); 3] = [
     (|u| u.collect(), |u| u.collect_told()),
-    (|u| u.collect_list(3), |u| u.collect_list_told(3)),
-    (|u| u.collect_threshold(9, 3), |u| u.collect_threshold_told(9, 3)),
+    (|u| u.collect_list(4), |u| u.collect_list_told(4)),
+    (|u| u.collect_threshold(9, 4), |u| u.collect_threshold_told(9, 4)),
 ];
+/// With a threshold that the free pages are above, and one that they equal.
+const BELOW: (Call, Call) = (|u| u.collect_threshold(0, 4), |u| u.collect_threshold_told(0, 4));
+const EQUAL: (Call, Call) = (|u| u.collect_threshold(1, 4), |u| u.collect_threshold_told(1, 4));
 
 /// Made on units that are the same, the two leave the same, and the new answer read as old is the old one. Gives the new one.
 fn beside(unit: &OwnedFtl, (old, told): (Call, Call)) -> Result<usize, Refusal> {
@@ -74,6 +77,18 @@ fn the_rest_is_as_it_was() {
     assert_eq!(beside(&done, WRITE), Ok(1));
     assert_eq!(beside(&unsound, WRITE), Err(Refusal::Unsound));
     assert_eq!(beside(&wrong, WRITE), Err(Refusal::Wrong));
+}
+
+#[test]
+fn two_queued() {
+    let mut unit = after(Geometry { n: 3, ..A }, &[], &[0, 1, 2, 0]);
+    assert_eq!(unit.collect_told(), Ok(0));
+    for l in [2, 1] {
+        assert_eq!(unit.write_told(l * 4, &[l as u8; 4]), Ok(4));
+    }
+    assert_eq!(COLLECTIONS.map(|call| beside(&unit, call)), [Ok(0), Ok(1), Ok(1)]);
+    assert_eq!(beside(&unit, BELOW), Ok(0));
+    assert_eq!(beside(&unit, EQUAL), Ok(1));
 }
 
 #[test]

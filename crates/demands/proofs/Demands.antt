@@ -98,7 +98,7 @@ module _ (G : Geometry) (bad : List ℕ) where
   pub given-only : {N : Numbers} (c : Call) (r : Recorder) {x : Lent} {z : ℤ} → PromiseIn N (run G bad c r) x z → (a : Answer) × When G bad c r a × (z ≡ number N a)
   given-only c r P = (run G bad c r .answer, answers-of G bad c r (run G bad c r .answer) .only refl, P .answer-is)
 
-  -- A refusal, from the number that came back: it is the number of a cause whose row of 01's table holds, in both columns; of a restore's reasons, 1 to 9
+  -- A refusal, from the number that came back: it is the number of a cause whose row of the table holds, in both columns; of a restore's reasons, 1 to 9
   pub record Refusal (N : Numbers) (c : Call) (r : Recorder) (x : Lent) (below : ℕ) : Type 0 where
     pub cause : Cause
     pub number-is : refusal N cause ≡ suc below

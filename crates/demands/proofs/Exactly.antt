@@ -178,15 +178,15 @@ module _ (G : Geometry) (bad : List ℕ) where
         run-is G bad c r
         ∙ guarded-passes _ _ _ _ x _ (sizes-exactly G bad c r .whenever (P .sizes-right)) (sound-exactly G bad c r (P .sizes-right) .whenever (P .sound)) (W .0) (W .1)
 
-    plapass-kinded : (a : Answer) → Plain a → run G bad c r .answer ≡ a → Passed G bad c r
-    plapass-kinded a p =
+    plain-passed : (a : Answer) → Plain a → run G bad c r .answer ≡ a → Passed G bad c r
+    plain-passed a p =
         by-tests a (λ _ e. absurd (subst Plain (sym e) p)) (λ _ _ e. absurd (subst Plain (sym e) p)) (λ _ _ _ e. absurd (subst Plain (sym e) p)) (λ P _. P)
 
     -- an answer of the deed, and of the call
     deed-exactly : (a : Answer) → Plain a → Exactly (run G bad c r .answer ≡ a) (Passed G bad c r × (deed G bad c r .answer ≡ a))
     deed-exactly a p =
         record {
-          only = λ e. let P : Passed G bad c r = plapass-kinded a p e in (P, sym (ap (λ (y : Outcome). y .answer) (passed-is P)) ∙ e);
+          only = λ e. let P : Passed G bad c r = plain-passed a p e in (P, sym (ap (λ (y : Outcome). y .answer) (passed-is P)) ∙ e);
           whenever = λ h. ap (λ (y : Outcome). y .answer) (passed-is (h .0)) ∙ h .1;
         }
 

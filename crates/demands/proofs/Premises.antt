@@ -1,4 +1,5 @@
--- The premises of Leaves, Signs, Seen, Fresh, Marked, Kept, PowerOn, Served and Told can be met: two units of device A and A3, by computation. Exactly asks nothing.
+-- The premises of Leaves, Signs, Seen, Fresh, Marked, Kept, PowerOn, Served and Told can be met: two units of device A and A3, by computation. Exactly
+-- asks nothing.
 use Prim.Native.Nat.{ℕ, _≤_}
 use native.Mathlib.Omega.{arith}
 use mathlib.Core.Path.{_≡_, refl}

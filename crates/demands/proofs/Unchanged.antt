@@ -1,6 +1,5 @@
--- 01's rows whose third column is "nothing changed" (22, 117, 61, a write's 14 or 28, a restore's reasons): nothing that was lent has changed, and no device
--- operation was done. And
--- "zero scratch is handed back zero".
+-- 01's rows whose third column is "nothing changed" (22, 117, 61, a write's 14 or 28, a restore's reasons): nothing that was lent has changed, and no
+-- device operation was done. And "zero scratch is handed back zero".
 use Prim.Native.Nat.{ℕ, zero, suc}
 use mathlib.Core.Path.{_≡_, refl, sym, ap, _∙_, subst}
 use mathlib.Core.Bool.{Bool, true, false, cond}

@@ -110,7 +110,7 @@ pub record ContentKept (G : Geometry) (st st′ : State) (ops : List Op) : Type 
   pub contents : (l : ℕ) → content G st′ l ≡ content G st l
   pub performs : st′ .flash ≡ performAll G ops (st .flash)
 
--- 14: "finished copies .. stand; victim off the queue, flag set, the rest sorted; a copy's 5 spends its page"
+-- 14, 28 or 121 in the new numbers: "finished copies .. stand; victim off the queue, flag set, the rest sorted; a copy's 5 spends its page"
 pub record CopyRefused (G : Geometry) (bad : List ℕ) (c : Cause) (st st′ : State) (ops : List Op) : Type 0 where
   pub done : ℕ
   pub here : State

@@ -58,7 +58,8 @@ CopyWhy G bad st (in-write f) = ⊥
 CopyWhy G bad st in-erase = ⊥
 CopyWhy G bad st (in-file r) = ⊥
 
--- 14, 28 or 121 in the new numbers: "a copy gets 14 or 5". So many copies are finished, and the next is refused with c
+-- 14, 28 or 121 in the new numbers: "a copy gets 14 or 5". So many copies are finished, and the next fails
+-- for what c says
 pub record CopyFails (G : Geometry) (bad : List ℕ) (st : State) (c : Cause) : Type 0 where
   pub some : st .tab .queued ≢ 0
   pub done : ℕ

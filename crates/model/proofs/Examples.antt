@@ -1,5 +1,5 @@
--- The marked examples of document 01, its trace, its limits, what its traps would get wrong, and 02's M-102: one table. Each row's calls are run through the
--- public entries, and one equation, by computation, says what every call of every row answers and all that is left behind.
+-- The marked examples of document 01, its trace, its limits, what its traps would get wrong, and 02's M-102: a table; and one for M-101's numbers. Each row's
+-- calls are run through the public entries, and an equation, by computation, says what every call of every row answers and all that is left behind.
 use Prim.Native.Nat.{ℕ, _+_, _*_, _-_, _%_}
 use mathlib.Core.Path.{_≡_, refl}
 use mathlib.Core.List.{List, [], _∷_, _++_, map}
@@ -570,14 +570,14 @@ told-table =
     -- a copy that meets a marked page gets 121, by a threshold too, and spends its page
     ∷ copy-marked gc
     ∷ copy-marked (gcBelow 3 3)
-    -- so does one that the fuse refuses, from the list; a write that the device refuses gets 5 as before
+    -- so does one that the fuse refuses, from the list; a write that the device refuses gets 5
     ∷ row B (over B (six 2 0 0 0 0 0) 4)
     (opens ∷ page 3 9 ∷ page 3 2 ∷ page 1 3 ∷ page 1 10 ∷ page 0 11 ∷ gcList 3 ∷ [])
     (moved 0 ∷ refused 5 ∷ moved 4 ∷ moved 4 ∷ moved 4 ∷ moved 4 ∷ refused 121 ∷ [])
     (mem
     (tables (four 5 4 none 1) (two 0 0) (two 2 3) (six 1 1 1 1 1 1) (six 3 0 0 1 0 0) (two 1 2) (two 0 0) (two 1 0) 1 0)
     (flash (fill (six 255 2 3 10 11 255)) (six 2 1 1 1 1 0) (two 0 0) 0))
-    -- an erase at its limit gets 5 as before, called in each way
+    -- an erase at its limit gets 5, called in each way
     ∷ worn-out gc
     ∷ worn-out (gcList 3)
     ∷ worn-out (gcBelow 9 3)
@@ -602,7 +602,7 @@ told-table =
     (mem
     (tables (three none none none) (two 2 2) (two 0 0) (four 0 0 0 0) (four 0 0 0 0) (two 0 0) (two 0 0) (two 0 0) 0 0)
     (flash (fill (four 255 255 255 255)) (four 0 0 0 0) (two 1 0) endless)))
-    -- the tests' numbers, and a count of 28, are what they were
+    -- the tests' numbers, and a count of 28, are the old ones
     ∷ row A (mem (litter 1) (worn endless))
     (put 12 (9 ∷ []) ∷ gc ∷ opens ∷ put 12 (9 ∷ []) ∷ put 1 (four 7 7 7 7) ∷ get 0 4 ∷ [])
     (refused 117 ∷ refused 117 ∷ moved 0 ∷ refused 22 ∷ refused 22 ∷ keeps 61 (zeros 4) ∷ [])

@@ -10,7 +10,7 @@ use lib.ListN.{length, take, getD-replicate}
 use lib.Seq.{getD-set-other, length-take-le}
 use borrow.Author.Tests.{eqb-true, eqb-false, ltb-true, leb-true, not-false}
 use Rattle.model.specs.Lists.{slot, splice, total, blank}
-use Rattle.model.specs.Numbers.{Geometry, Good, good?, logicalPage, offset, Answer, Moved, Refused, Cause, Wrong, Unsound, Unmapped, Erase, Reason}
+use Rattle.model.specs.Numbers.{Geometry, Good, good?, logicalPage, offset, Answer, Moved, Refused, Cause, Wrong, Unsound, Unmapped, Erase}
 use Rattle.model.specs.Causes.{kindOf}
 use Rattle.model.specs.Tables.{Tables, at}
 use Rattle.model.specs.Device.{Flash, State, state, Out, out, clearUp, mayProgram, mayErase, raised, blanked, EraseSeg, finish, refuse, behind, goOn, formatFrom}

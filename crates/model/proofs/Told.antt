@@ -30,9 +30,9 @@ pub refusal-small : (N : Numbers) (c : Cause) → OfReason (λ r. r < 4096) (kin
 refusal-small N Wrong h = omega arith
 refusal-small N Unsound h = omega arith
 refusal-small N Unmapped h = omega arith
-refusal-small N NoRoom h = chosen-small N 14 28 (omega arith) (omega arith)
+refusal-small N NoRoom h = chosen-small N _ _ (omega arith) (omega arith)
 refusal-small N Device h = omega arith
-refusal-small N CopyNoRoom h = chosen-small N 14 28 (omega arith) (omega arith)
-refusal-small N CopyDevice h = chosen-small N 14 121 (omega arith) (omega arith)
+refusal-small N CopyNoRoom h = chosen-small N _ _ (omega arith) (omega arith)
+refusal-small N CopyDevice h = chosen-small N _ _ (omega arith) (omega arith)
 refusal-small N Erase h = omega arith
 refusal-small N (Reason r) h = h

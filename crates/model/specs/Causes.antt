@@ -31,7 +31,7 @@ abbrev pub AtDevice : Failing → Type 0
 AtDevice for-room = ⊥
 AtDevice at-device = Unit {0}
 
--- a copy's
+-- a collection is refused because its copy is
 abbrev pub ByCopy : Kind → Type 0
 ByCopy in-tests = ⊥
 ByCopy in-read = ⊥

@@ -21,7 +21,7 @@ victim t = at (sorted t) 0
 abbrev pub taken : Tables → Tables
 taken t = setQueue (drop 1 (sorted t) ++ (0 ∷ drop (t .queued) (t .queue))) (setQueued (t .queued - 1) t)
 
--- "a copy gets 14 or 5"
+-- "a copy gets 14 or 5"; 02, M-101: "whether no segment had room, and all that call it pass that on"
 abbrev pub ofCopy : Cause → Cause
 ofCopy Wrong = Wrong
 ofCopy Unsound = Unsound

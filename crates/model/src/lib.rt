@@ -16,7 +16,7 @@ pub struct LogicalPage(pub usize);
 
 pub struct PhysicalAddress(pub u32);
 
-// What finding a page gives: page k of segment g; on sound tables `Nothing` exactly when no segment outside the bad list has a free page (`found`,
+// "Finding a page should say whether no segment had room": page k of segment g; on sound tables `Nothing` exactly when no segment outside the bad list has a free page (`found`,
 // proofs/Find.antt).
 pub enum Found {
     At(usize, usize),

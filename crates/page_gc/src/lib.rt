@@ -13,7 +13,7 @@ use model::Answer;
 use model::Cause;
 use model::Geometry;
 
-// "a copy gets 14 or 5": its cause is told apart from a write's.
+// "a copy gets 14 or 5": whether for room or at the device is passed on, told apart from a write's.
 fn of_copy(c: Cause) -> Cause
     ensures { λ r. ⌜ r ≡ ofCopy c ⌝ }
 {

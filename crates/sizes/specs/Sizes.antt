@@ -1,5 +1,5 @@
 -- What a caller lends, by size: "lent number slices of fixed capacity (p per list, n for the queue)", and the scratch of the public entries.
-use Prim.Native.Nat.{ℕ, _+_, _*_}
+use Prim.Native.Nat.{ℕ, _*_}
 use mathlib.Core.Bool.{cond}
 use Rattle.model.specs.declared.Geometry.{Geometry}
 use Rattle.model.specs.Numbers.{good?}

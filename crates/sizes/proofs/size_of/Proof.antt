@@ -1,9 +1,9 @@
 -- `size_of` meets its contract, size by size.
-use mathlib.Core.Path.{_≡_, sym, ap, _∙_}
+use mathlib.Core.Path.{sym, ap, _∙_}
 use native.Mathlib.Omega.{arith}
 use native.Mathlib.Nat.{mul-le-mul}
 use Rattle.model.proofs.Held.{slots}
-use Rattle.sizes.specs.Sizes.{Size, sizeOf}
+use Rattle.sizes.specs.Sizes.{sizeOf}
 use borrow.Author.Needs.{needs}
 use Rattle.sizes.proofs.size_of.Statement.{statement}
 use Rattle.sizes.proofs.size_of.Tie as tie
