@@ -141,10 +141,17 @@ int64_t shr_encode(size_t n, size_t p, size_t s, size_t w, size_t e, size_t limi
                    const uint32_t *tab, size_t tab_len, const uint8_t *used, size_t used_len,
                    uint8_t *buffer, size_t buffer_len, uint8_t *seen, size_t seen_len);
 
-/* Makes the tables of a checkpoint, whatever they held. Answers 0, -SHR_WRONG, or a reason negated, which changes nothing. */
+/* Makes the tables of a checkpoint, whatever they held; the queue is empty. Answers 0, -SHR_WRONG, or a reason negated, which changes
+ * nothing. For new programs: shr_restore_dead. */
 int64_t shr_restore(size_t n, size_t p, size_t s, size_t w, size_t e, size_t limit,
                     const uint8_t *file, size_t file_len, uint32_t *tab, size_t tab_len, uint8_t *used, size_t used_len,
                     uint8_t *taken, size_t taken_len);
+
+/* The same, and each segment with free count 0 and a list shorter than p is queued, ascending, its flag set: a collection can take it. Every
+ * answer, and all else that is left, is the same. */
+int64_t shr_restore_dead(size_t n, size_t p, size_t s, size_t w, size_t e, size_t limit,
+                         const uint8_t *file, size_t file_len, uint32_t *tab, size_t tab_len, uint8_t *used, size_t used_len,
+                         uint8_t *taken, size_t taken_len);
 
 /* The lent sizes of a geometry, in elements; 0 for a geometry that is refused. */
 size_t shr_tab_words(size_t n, size_t p, size_t s, size_t w, size_t e, size_t limit);
@@ -279,6 +286,11 @@ static inline int64_t shr_unit_encode(const struct shr_geometry *geo, struct shr
 static inline int64_t shr_unit_restore(const struct shr_geometry *geo, struct shr_unit *u, const uint8_t *file, size_t size)
 {
     return shr_restore(SHR_GEO_(geo), file, size, SHR_LEND_(u->tab), SHR_LEND_(u->used), SHR_LEND_(u->taken));
+}
+
+static inline int64_t shr_unit_restore_dead(const struct shr_geometry *geo, struct shr_unit *u, const uint8_t *file, size_t size)
+{
+    return shr_restore_dead(SHR_GEO_(geo), file, size, SHR_LEND_(u->tab), SHR_LEND_(u->used), SHR_LEND_(u->taken));
 }
 
 /* A checkpoint's length; 0 for a geometry that is refused. */

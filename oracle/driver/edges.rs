@@ -2,15 +2,17 @@
 //!
 //! It covers what has no counterpart in the Rust: wrong sizes, dirty scratch, unsound
 //! tables, wrong geometries, fuses, worn and marked flash, damaged checkpoints. A write and a
-//! collection are also made in the new numbers, on a copy of what the old call was lent.
+//! collection are also made in the new numbers, on a copy of what the old call was lent; so is
+//! every restore with the dead queued, and runs go on from what either of the two left.
 //!
 //!     edges [part] [--seconds N] [--calls N] [--seed S] [--announce]
 //!
 //! Parts: all (every part, then random runs to the end), selftest, runs (random ones),
-//! extremes (right geometries at their limits), words (all tables of tiny devices), numbers
-//! (sizes and CRC-32), and those of `PARTS`. A difference is printed with the shortest run
-//! that still shows it, and the exit status is 1.
-//! `--announce` prints each call before it is made (its told call follows unannounced), for a port that would not return.
+//! extremes (right geometries at their limits), words (all tables of tiny devices), files (all
+//! checkpoints of tiny devices), numbers (sizes and CRC-32), and those of `PARTS`. A difference is
+//! printed with the shortest run that still shows it, and the exit status is 1.
+//! `--announce` prints each call before it is made (its told call, or a restore's other one, follows unannounced), for a
+//! port that would not return.
 
 #[path = "plain.rs"]
 mod plain;
@@ -169,6 +171,9 @@ fn at_free(geo: &Geometry) -> usize {
 fn at_valid(geo: &Geometry) -> usize {
     (geo.e + geo.n) as usize
 }
+fn at_lens(geo: &Geometry) -> usize {
+    (geo.e + 2 * geo.n) as usize
+}
 fn at_queue(geo: &Geometry) -> usize {
     (geo.e + 3 * geo.n) as usize
 }
@@ -219,6 +224,7 @@ enum Call {
     Threshold(u64, u64),
     Encode,
     Restore,
+    RestoreDead,
 }
 
 use Call::*;
@@ -235,6 +241,7 @@ impl Call {
             Threshold(..) => "collect_threshold",
             Encode => "encode",
             Restore => "restore",
+            RestoreDead => "restore_dead",
         }
     }
 
@@ -245,6 +252,15 @@ impl Call {
             Collect => Some("collect_told"),
             List(_) => Some("collect_list_told"),
             Threshold(..) => Some("collect_threshold_told"),
+            _ => None,
+        }
+    }
+
+    /// A restore under its other name.
+    fn other(&self) -> Option<Call> {
+        match self {
+            Restore => Some(RestoreDead),
+            RestoreDead => Some(Restore),
             _ => None,
         }
     }
@@ -260,7 +276,7 @@ impl Call {
                 &[Bad, Tab, Used, Bytes, Marks, Counts, Fuse, Page, Seen, Order]
             }
             Encode => &[Tab, Used, Buffer, Seen],
-            Restore => &[File, Tab, Used, Taken],
+            Restore | RestoreDead => &[File, Tab, Used, Taken],
         }
     }
 }
@@ -298,6 +314,7 @@ fn by_plain(geo: &Geometry, call: &Call, lent: &mut Lent) -> Answer {
         Threshold(t, m) => plain::collect_threshold(geo, t, m, lent),
         Encode => plain::encode(geo, lent),
         Restore => plain::restore(geo, lent),
+        RestoreDead => plain::restore_dead(geo, lent),
     }
 }
 
@@ -358,7 +375,8 @@ fn ask_port(geo: &Geometry, numbers: Numbers, call: &Call, lent: &mut Lent) -> i
         List(m) => port::collect_list(g, numbers, bad, m as usize, u),
         Threshold(t, m) => port::collect_threshold(g, numbers, bad, t, m as usize, u),
         Encode => port::encode(g, u, &mut lent.buffer),
-        Restore => port::restore(g, &lent.file, u),
+        Restore => port::restore(g, port::Queueing::Empty, &lent.file, u),
+        RestoreDead => port::restore(g, port::Queueing::Dead, &lent.file, u),
     };
     move_unit!(unit, lent);
     answer
@@ -485,6 +503,50 @@ fn compare_told(
     Some(Difference { field: format!("new numbers beside old: {}", found.field), ..found })
 }
 
+/// The two restores beside each other: the same answer, and the same left but for the queue's words,
+/// its length and the flags, in which only restores that are done may differ.
+fn compare_beside(geo: &Geometry, one: &Outcome, other: &Outcome) -> Option<Difference> {
+    let (mut one, mut other) = (one.clone(), other.clone());
+    if one.answer == 0 && other.answer == 0 {
+        for at in (at_queue(geo)..at_alloc(geo)).chain([at_queued(geo)]) {
+            other.lent.tab[at] = one.lent.tab[at];
+        }
+    }
+    let found = compare(geo, &mut one, &mut other)?;
+    Some(Difference { field: format!("the two restores: {}", found.field), ..found })
+}
+
+/// A restore under its other name, by the plain reading and by the side that is compared: both
+/// give the same, and beside the restore that was asked for it is as it must be.
+fn compare_other(
+    geo: &Geometry,
+    asked: &Outcome,
+    other: &mut (Outcome, Outcome),
+) -> Option<Difference> {
+    let (plain, port) = other;
+    match compare(geo, plain, port) {
+        Some(found) => {
+            Some(Difference { field: format!("under the other name: {}", found.field), ..found })
+        }
+        None => compare_beside(geo, asked, port),
+    }
+}
+
+/// What a restore that queues the dead, and is done, makes of the full segments.
+#[derive(Clone, Copy)]
+struct Requeued {
+    queued: usize,
+    live: usize,
+}
+
+fn requeued(geo: &Geometry, left: &Outcome) -> Option<Requeued> {
+    if left.answer != 0 {
+        return None;
+    }
+    let live = segments(geo, &left.lent, |free, length, p| free == 0 && length == p);
+    Some(Requeued { queued: queued(geo, &left.lent), live: live.len() })
+}
+
 // ---------------------------------------------------------------- steps
 
 /// A change of what is lent before a call.
@@ -532,6 +594,8 @@ struct State {
     geo: Geometry,
     lent: Lent,
     saved: Vec<Vec<u8>>,
+    /// The tables go back to a restore that queued the dead, and queued some.
+    requeued: bool,
 }
 
 /// Right sizes; tables and flash all zero; buffers with room and a pattern.
@@ -546,7 +610,7 @@ fn start(geo: &Geometry, bad: &[u8]) -> State {
     lent.data = pattern(geo.s as usize, 1);
     lent.out = pattern(geo.s as usize + 3, 200);
     lent.buffer = pattern(plain::checkpoint_bytes(geo) + 5, 100);
-    State { geo: *geo, lent, saved: Vec::new() }
+    State { geo: *geo, lent, saved: Vec::new(), requeued: false }
 }
 
 fn pattern(length: usize, first: u8) -> Vec<u8> {
@@ -663,31 +727,67 @@ fn unsound_after(geo: &Geometry, before: &[u32], after: &Outcome) -> Option<Diff
 /// How many checkpoints a run remembers.
 const REMEMBERED: usize = 8;
 
-/// One step of both sides from one state; the plain answer, or the difference.
-fn take(side: Side, state: &mut State, step: &Step) -> Result<Answer, Difference> {
+/// A call by the plain reading, on a copy of what is lent.
+fn by_reading(geo: &Geometry, call: &Call, lent: &Lent) -> Outcome {
+    let mut lent = lent.clone();
+    let answer = old(by_plain(geo, call, &mut lent));
+    Outcome { answer, lent, past: None }
+}
+
+/// A step without a difference: the plain answer, and what a restore that queues the dead came to.
+struct Made {
+    answer: Answer,
+    requeued: Option<Requeued>,
+}
+
+/// One step of both sides from one state, or the difference.
+fn take(side: Side, state: &mut State, step: &Step) -> Result<Made, Difference> {
     let (mut geo, mut lent) = (state.geo, state.lent.clone());
     for poke in &step.pokes {
         apply(poke, &state.saved, &mut geo, &mut lent);
     }
-    let made = |numbers| by_side(side, &geo, numbers, &step.call, &lent);
-    let mut port = made(Numbers::Old);
-    let told = step.call.told().map(|_| made(Numbers::New));
+    let made = |numbers, call: &Call| by_side(side, &geo, numbers, call, &lent);
+    let mut port = made(Numbers::Old, &step.call);
+    let told = step.call.told().map(|_| made(Numbers::New, &step.call));
+    let mut other = (step.call.other())
+        .map(|call| (by_reading(&geo, &call, &lent), made(Numbers::Old, &call)));
     let before = lent.tab.clone();
     let answer = by_plain(&geo, &step.call, &mut lent);
     let mut plain = Outcome { answer: old(answer), lent, past: None };
     let found = compare(&geo, &mut plain, &mut port)
         .or_else(|| compare_told(&geo, answer, &mut port, &mut told?))
-        .or_else(|| unsound_after(&geo, &before, &plain));
+        .or_else(|| compare_other(&geo, &port, other.as_mut()?))
+        .or_else(|| unsound_after(&geo, &before, &plain))
+        .or_else(|| unsound_after(&geo, &before, &other.as_ref()?.0));
     if let Some(found) = found {
         return Err(found);
     }
+    let dead = match step.call {
+        RestoreDead => Some(&plain),
+        _ => other.as_ref().map(|(plain, _)| plain),
+    };
+    let requeued = dead.and_then(|left| requeued(&geo, left));
     if step.keep {
+        state.requeued = stays_requeued(state, step, plain.answer, requeued);
         state.lent = plain.lent;
         if step.call == Encode && plain.answer > 0 && state.saved.len() < REMEMBERED {
             state.saved.push(state.lent.buffer[..plain.answer as usize].to_vec());
         }
     }
-    Ok(answer)
+    Ok(Made { answer, requeued })
+}
+
+/// Whether the tables after a kept step go back to a restore that queued dead segments.
+fn stays_requeued(state: &State, step: &Step, answer: i64, requeued: Option<Requeued>) -> bool {
+    match (step.call, answer) {
+        (Open | Restore, 0) => false,
+        (RestoreDead, 0) => requeued.is_some_and(|full| full.queued > 0),
+        _ => state.requeued && !gives_tables(step),
+    }
+}
+
+fn gives_tables(step: &Step) -> bool {
+    step.pokes.iter().any(|poke| matches!(poke, Poke::Tables(..)))
 }
 
 // ---------------------------------------------------------------- reports
@@ -795,6 +895,8 @@ struct Driver {
     calls: u64,
     /// Those of them that were also made in the new numbers.
     told: u64,
+    /// The restores, each made under both names.
+    restores: u64,
     tally: BTreeMap<(&'static str, String), u64>,
 }
 
@@ -809,6 +911,7 @@ impl Driver {
             announce: false,
             calls: 0,
             told: 0,
+            restores: 0,
             tally: BTreeMap::new(),
         }
     }
@@ -818,20 +921,42 @@ impl Driver {
         self.calls >= self.most || late
     }
 
-    fn count(&mut self, call: &Call, answer: Answer) {
+    fn count(&mut self, call: &Call, made: &Made) {
         self.calls += 1;
-        self.met(call.name(), old(answer));
+        self.answered(call.name(), old(made.answer));
         if let Some(told) = call.told() {
             self.told += 1;
-            self.met(told, plain::number(Numbers::New, answer));
+            self.answered(told, plain::number(Numbers::New, made.answer));
+        }
+        if let Some(other) = call.other() {
+            self.restores += 1;
+            self.answered(other.name(), old(made.answer));
+        }
+        if let Some(full) = made.requeued {
+            self.met("queued by it", ["none", "one", "more"][full.queued.min(2)].into());
+            if full.live > 0 {
+                self.met("queued by it", "not a live one".into());
+            }
         }
     }
 
-    fn met(&mut self, entry: &'static str, answer: i64) {
+    /// A write or a collection that comes to the queue of a restore.
+    fn count_after(&mut self, call: &Call, answer: i64) {
+        let entry = if collects(call) { "collected after it" } else { "written after it" };
+        if !matches!(answer, -22 | -117) && call.told().is_some() {
+            self.answered(entry, answer);
+        }
+    }
+
+    fn answered(&mut self, entry: &'static str, answer: i64) {
         let class = match answer {
             i64::MIN..=0 => answer.to_string(),
             _ => "above 0".into(),
         };
+        self.met(entry, class);
+    }
+
+    fn met(&mut self, entry: &'static str, class: String) {
         *self.tally.entry((entry, class)).or_insert(0) += 1;
     }
 
@@ -843,13 +968,19 @@ impl Driver {
         if self.announce {
             eprintln!("{:?} {:?} {step:?}", place.state.geo, place.bad);
         }
+        let state = &place.state;
+        let after = state.requeued && queued(&state.geo, &state.lent) > 0 && !gives_tables(&step);
         match take(self.side, &mut place.state, &step) {
-            Ok(answer) => {
-                self.count(&step.call, answer);
+            Ok(made) => {
+                let answer = old(made.answer);
+                self.count(&step.call, &made);
+                if after {
+                    self.count_after(&step.call, answer);
+                }
                 if step.keep {
                     place.steps.push(step);
                 }
-                Ok(old(answer))
+                Ok(answer)
             }
             Err(found) => {
                 let mut steps = place.steps.clone();
@@ -967,9 +1098,14 @@ impl Driver {
             _ if state.saved.is_empty() => (vec![], Encode),
             _ => {
                 let which = self.rng.below(state.saved.len() as u64) as usize;
-                (vec![Poke::Saved(which)], Restore)
+                (vec![Poke::Saved(which)], self.a_restore())
             }
         }
+    }
+
+    /// Under either name; the run goes on from what this one leaves.
+    fn a_restore(&mut self) -> Call {
+        self.rng.pick(&[Restore, RestoreDead])
     }
 
     /// Sound tables of any kind, also such as no run from fresh ones reaches.
@@ -1015,7 +1151,7 @@ impl Driver {
         let flags: Vec<u32> = (0..n).map(|g| u32::from(spent[g] == p && !rng.one_in(3))).collect();
         let mut queue: Vec<u32> = (0..n as u32).filter(|&g| flags[g as usize] == 1).collect();
         rng.shuffle(&mut queue);
-        queue.truncate(queue.len().saturating_sub(rng.below(2) as usize).min(2_000));
+        queue.truncate(queue.len().saturating_sub(rng.below(2) as usize).min(LONG_QUEUE as usize));
         let queued = queue.len() as u32;
         queue.resize(n, 0);
         let mut tab = map;
@@ -1320,7 +1456,8 @@ impl Driver {
         let accepted = self.aside(place, sealed.clone(), Restore)? == 0;
         if accepted && self.rng.one_in(8) {
             let mut branch = place.clone();
-            self.keep(&mut branch, sealed, Restore)?;
+            let call = self.a_restore();
+            self.keep(&mut branch, sealed, call)?;
             self.all_calls(&mut branch, &[])?;
         }
         Ok(())
@@ -1473,7 +1610,7 @@ impl Driver {
                 let length = geo.s.min(state.lent.data.len() as u64);
                 (self.sound_tables(geo), Write(0, length))
             }
-            _ => (self.damage(state), Restore),
+            _ => (self.damage(state), self.a_restore()),
         }
     }
 
@@ -1577,6 +1714,9 @@ fn extremes() -> Vec<Geometry> {
     ]
 }
 
+/// The plain reading takes long to sort more.
+const LONG_QUEUE: u64 = 2_000;
+
 impl Driver {
     fn extremes(&mut self) -> Going {
         for geo in extremes() {
@@ -1602,6 +1742,11 @@ impl Driver {
             self.keep(place, vec![], call)?;
         }
         self.keep(place, vec![Poke::Encoded], Restore)?;
+        if geo.n <= LONG_QUEUE {
+            self.keep(place, vec![], RestoreDead)?;
+            self.keep(place, vec![], List(2))?;
+            self.keep(place, vec![], Write(0, geo.s))?;
+        }
         let end = place.state.lent.tab.len() - 1;
         for at in [0, at_free(&geo), at_valid(&geo) + 1, at_queued(&geo), lists, end] {
             let wrong = Poke::Put(Tab, at, 0x8000_0000);
@@ -1658,15 +1803,56 @@ impl Driver {
     }
 }
 
-/// The tables of one index, read as a number with a digit for each word and mark.
-fn nth_tables(digits: &[&[u32]], mut index: usize, words: usize) -> Poke {
+/// The words of one index, read as a number with a digit for each.
+fn nth(digits: &[&[u32]], mut index: usize) -> Vec<u32> {
     let mut all = Vec::new();
     for values in digits {
         all.push(values[index % values.len()]);
         index /= values.len();
     }
+    all
+}
+
+/// The tables of one index, with a digit for each word and mark.
+fn nth_tables(digits: &[&[u32]], index: usize, words: usize) -> Poke {
+    let mut all = nth(digits, index);
     let used = all.split_off(words).into_iter().map(|mark| mark as u8).collect();
     Poke::Tables(all, used)
+}
+
+// ---------------------------------------------------------------- all checkpoints of tiny devices
+
+impl Driver {
+    /// Every map and all free counts with a right CRC: what both restores leave, and some calls after.
+    fn files(&mut self) -> Going {
+        for (n, p, w, e) in [(1, 1, 0, 1), (1, 2, 1, 2), (1, 2, 2, 2), (3, 1, 0, 3), (2, 2, 1, 3), (3, 2, 1, 3)] {
+            let geo = Geometry { n, p, s: 1, w, e, limit: 1 };
+            let mut place = self.fresh(&geo, vec![0; n as usize])?;
+            let words: Vec<u32> = (0..=(n << w) as u32).chain([EMPTY]).collect();
+            let frees: Vec<u32> = (0..=p as u32).collect();
+            let mut digits = vec![&words[..]; e as usize];
+            digits.resize((e + n) as usize, &frees);
+            for index in 0..digits.iter().map(|values| values.len()).product() {
+                let file = nth(&digits, index).into_iter().enumerate();
+                let mut pokes: Vec<Poke> = file.map(|(i, word)| Poke::Word(44 + 4 * i, word)).collect();
+                pokes.push(Poke::Seal);
+                self.restored_file(&mut place, pokes, index)?;
+            }
+        }
+        Ok(())
+    }
+
+    fn restored_file(&mut self, place: &mut Place, pokes: Vec<Poke>, index: usize) -> Going {
+        if index % 8 > 0 {
+            return self.aside(place, pokes, Restore).map(|_| ());
+        }
+        let mut branch = place.clone();
+        self.keep(&mut branch, pokes, RestoreDead)?;
+        for call in [Collect, List(2), List(u64::MAX), Threshold(1, 1), Write(0, 1)] {
+            self.aside(&mut branch, vec![], call)?;
+        }
+        Ok(())
+    }
 }
 
 // ---------------------------------------------------------------- sizes and CRC-32
@@ -1750,6 +1936,27 @@ fn collects(call: &Call) -> bool {
 /// The queue's length; 0 where there is no such word.
 fn queued(geo: &Geometry, lent: &Lent) -> usize {
     lent.tab.get(at_queued(geo)).map_or(0, |&length| length as usize)
+}
+
+/// The segments of a certain free count and length of list.
+fn segments(geo: &Geometry, lent: &Lent, chosen: fn(u64, u64, u64) -> bool) -> Vec<u32> {
+    let word = |at: usize, g: u64| lent.tab[at + g as usize] as u64;
+    (0..geo.n)
+        .filter(|&g| chosen(word(at_free(geo), g), word(at_lens(geo), g), geo.p))
+        .map(|g| g as u32)
+        .collect()
+}
+
+fn is_dead(free: u64, length: u64, p: u64) -> bool {
+    free == 0 && length < p
+}
+
+/// Just these segments are queued and flagged.
+fn queue_only(geo: &Geometry, lent: &mut Lent, segments: &[u32]) {
+    lent.tab[at_queue(geo)..at_alloc(geo)].fill(0);
+    lent.tab[at_queue(geo)..][..segments.len()].copy_from_slice(segments);
+    lent.tab[at_queued(geo)] = segments.len() as u32;
+    segments.iter().for_each(|&g| lent.tab[at_flags(geo) + g as usize] = 1);
 }
 
 /// The call once more from a changed beginning, in 01's numbers, with one part then put back.
@@ -1980,10 +2187,113 @@ const TOLD_FAULTS: [(&str, Fault); 8] = [
     }),
 ];
 
+/// Programs that are wrong where a restore queues the dead, or where the old one does not.
+const DEAD_FAULTS: [(&str, Fault); 14] = [
+    ("the dead queued descending", |geo, call, _, after, answer| {
+        if *call == RestoreDead && answer == 0 {
+            let dead: Vec<u32> = segments(geo, after, is_dead).into_iter().rev().collect();
+            queue_only(geo, after, &dead);
+        }
+        answer
+    }),
+    ("a queued segment's flag not set", |geo, call, _, after, answer| {
+        if *call == RestoreDead && answer == 0 && queued(geo, after) > 0 {
+            let last = after.tab[at_queue(geo) + queued(geo, after) - 1] as usize;
+            after.tab[at_flags(geo) + last] = 0;
+        }
+        answer
+    }),
+    ("a full live segment queued", |geo, call, _, after, answer| {
+        if *call == RestoreDead && answer == 0 {
+            let full = segments(geo, after, |free, _, _| free == 0);
+            queue_only(geo, after, &full);
+        }
+        answer
+    }),
+    ("a full live segment flagged", |geo, call, _, after, answer| {
+        if *call == RestoreDead && answer == 0 {
+            for g in segments(geo, after, |free, _, _| free == 0) {
+                after.tab[at_flags(geo) + g as usize] = 1;
+            }
+        }
+        answer
+    }),
+    ("a segment with one free page queued", |geo, call, _, after, answer| {
+        if *call == RestoreDead && answer == 0 {
+            let nearly = segments(geo, after, |free, length, p| free <= 1 && length < p);
+            queue_only(geo, after, &nearly);
+        }
+        answer
+    }),
+    ("only segments without a list queued", |geo, call, _, after, answer| {
+        if *call == RestoreDead && answer == 0 {
+            let bare = segments(geo, after, |free, length, _| free == 0 && length == 0);
+            queue_only(geo, after, &bare);
+        }
+        answer
+    }),
+    ("the first segment missed", |geo, call, _, after, answer| {
+        if *call == RestoreDead && answer == 0 {
+            let mut dead = segments(geo, after, is_dead);
+            dead.retain(|&g| g > 0);
+            queue_only(geo, after, &dead);
+        }
+        answer
+    }),
+    ("the last segment missed", |geo, call, _, after, answer| {
+        if *call == RestoreDead && answer == 0 {
+            let mut dead = segments(geo, after, is_dead);
+            dead.retain(|&g| g as u64 + 1 < geo.n);
+            queue_only(geo, after, &dead);
+        }
+        answer
+    }),
+    ("a dropped word keeps its segment off the queue", |geo, call, _, after, answer| {
+        if *call == RestoreDead && answer == 0 {
+            let words: Vec<u32> = (after.file[44..][..4 * geo.e as usize].chunks(4))
+                .map(|word| u32::from_le_bytes(word.try_into().unwrap()))
+                .collect();
+            let named = |g: u32| words.iter().filter(|&&word| word >> geo.w == g).count() as u64;
+            let mut dead = segments(geo, after, is_dead);
+            dead.retain(|&g| named(g) < geo.p);
+            queue_only(geo, after, &dead);
+        }
+        answer
+    }),
+    ("slots of the old queue stay behind the new", |geo, call, before, after, answer| {
+        if *call == RestoreDead && answer == 0 {
+            let rest = at_queue(geo) + queued(geo, after)..at_flags(geo);
+            after.tab[rest.clone()].copy_from_slice(&before.tab[rest]);
+        }
+        answer
+    }),
+    ("flags of the old tables stay", |geo, call, before, after, answer| {
+        if *call == RestoreDead && answer == 0 {
+            (at_flags(geo)..at_alloc(geo)).for_each(|at| after.tab[at] |= before.tab[at]);
+        }
+        answer
+    }),
+    ("a refused restore empties the queue", |geo, call, _, after, answer| {
+        if *call == RestoreDead && (-9..0).contains(&answer) {
+            queue_only(geo, after, &[]);
+        }
+        answer
+    }),
+    ("the old name queues the dead", |geo, call, before, after, answer| match call {
+        Restore => again(geo, &RestoreDead, before.clone(), after),
+        _ => answer,
+    }),
+    ("the new name queues nothing", |geo, call, before, after, answer| match call {
+        RestoreDead => again(geo, &Restore, before.clone(), after),
+        _ => answer,
+    }),
+];
+
 fn wrong_programs() -> Vec<(&'static str, Side)> {
     let by = |numbers| move |(name, fault)| (name, Side::Wrong(numbers, fault));
     let old = FAULTS.into_iter().map(by(Numbers::Old));
-    old.chain(TOLD_FAULTS.into_iter().map(by(Numbers::New))).collect()
+    let told = TOLD_FAULTS.into_iter().map(by(Numbers::New));
+    old.chain(told).chain(DEAD_FAULTS.into_iter().map(by(Numbers::Old))).collect()
 }
 
 // ---------------------------------------------------------------- self-test
@@ -2018,6 +2328,30 @@ fn perturbed(place: &Place, call: Call) -> Result<u64, String> {
         expect(format!("past {field:?}"), Outcome { past: Some(field), ..right.clone() })?;
     }
     expect("answer".into(), Outcome { answer: answer + 1, ..right.clone() })?;
+    Ok(found)
+}
+
+/// Each word changed singly after one of the two restores must be found beside the other, but those
+/// of the queue and the flags when they are done.
+fn besides_work(place: &Place) -> Result<u64, String> {
+    let (geo, mut found) = (place.state.geo, 0);
+    for file in [place.state.lent.file.clone(), Vec::new()] {
+        let lent = Lent { file, ..place.state.lent.clone() };
+        let (one, other) = (by_reading(&geo, &Restore, &lent), by_reading(&geo, &RestoreDead, &lent));
+        if compare_beside(&geo, &one, &other).is_some() {
+            return Err("a difference of the two restores".into());
+        }
+        for at in 0..lent.tab.len() {
+            let mut wrong = other.clone();
+            wrong.lent.tab[at] ^= 1;
+            let of_queue = (at_queue(&geo)..at_alloc(&geo)).contains(&at) || at == at_queued(&geo);
+            let expected = one.answer != 0 || !of_queue;
+            if compare_beside(&geo, &one, &wrong).is_some() != expected {
+                return Err(format!("{} changed after one of two restores", word_name(&geo, at)));
+            }
+            found += u64::from(expected);
+        }
+    }
     Ok(found)
 }
 
@@ -2156,9 +2490,33 @@ fn traced(geo: Geometry) -> Example {
     } }
 }
 
-/// The plain reading gives what 01's examples say.
+/// Restores that queue the dead: three, one beside a full live segment, and the one that E4 loses.
+fn dead_examples() -> Vec<Example> {
+    let geo = Geometry { n: 2, p: 2, s: 4, w: 1, e: 3, limit: 5 };
+    let more = Geometry { n: 3, ..geo };
+    let mut three = pages(&[0, 0, 0, 0, 0, 0]);
+    three.push((vec![Poke::Encoded], RestoreDead, 0));
+    let (file, _, answer) = by_hand(0, [2, 3, EMPTY, 0, 0], 0);
+    let mut e4 = pages(&[0, 1, 2, 0]);
+    e4.push((vec![], Collect, -14));
+    e4.push((vec![Poke::Encoded], RestoreDead, 0));
+    e4.push((vec![], Collect, -14));
+    vec![
+        Example { name: "three dead", geo: more, script: three, seen: |_, lent| {
+            lent.tab[12..18] == [0, 1, 2, 1, 1, 1] && lent.tab[19] == 3
+        } },
+        Example { name: "one dead", geo, script: vec![(file, RestoreDead, answer)], seen: |_, lent| {
+            lent.tab[9..13] == [0, 0, 1, 0] && lent.tab[14] == 1
+        } },
+        Example { name: "E4 restored", geo, script: e4, seen: |before, lent| {
+            before.tab[9..13] == [0, 0, 1, 0] && (before.tab[14], lent.tab[14]) == (1, 0)
+        } },
+    ]
+}
+
+/// The plain reading gives what the examples say.
 fn examples_hold(driver: &mut Driver) -> Result<(), String> {
-    for example in first_examples().into_iter().chain(other_examples()) {
+    for example in first_examples().into_iter().chain(other_examples()).chain(dead_examples()) {
         let bad = vec![0; example.geo.n as usize];
         let failed = |what: &str| format!("example {}: {what}", example.name);
         let mut place = driver.fresh(&example.geo, bad).map_err(|_| failed("no place"))?;
@@ -2186,14 +2544,14 @@ fn selftest(seed: u64) -> Result<(), String> {
     let right = Side::Wrong(Numbers::Old, no_fault);
     let mut driver = Driver::new(right, seed, f64::INFINITY, 50_000);
     examples_hold(&mut driver)?;
-    println!("E1 to E10 and the trace's calls hold of the plain reading");
+    println!("E1 to E10, the trace's calls and three restores of the dead hold of the plain reading");
     let mut changes = 0;
     for _ in 0..20 {
         let Ok(place) = driver.some_place() else { return Err("no place".into()) };
         for call in usual_calls(&place.state.geo) {
             changes += perturbed(&place, call)?;
         }
-        changes += guards_work(&place)?;
+        changes += besides_work(&place)? + guards_work(&place)?;
     }
     println!("{changes} single changes of an outcome, each found and named");
     loop {
@@ -2213,9 +2571,9 @@ fn selftest(seed: u64) -> Result<(), String> {
 
 // ---------------------------------------------------------------- main
 
-/// Every answer of document 01, and those of 02's new numbers, by entry; runs of `all` must meet
+/// Every answer of document 01, and those of 02's new names, by entry; runs of `all` must meet
 /// each, and no other.
-const ANSWERS: [(&str, &[&str]); 13] = [
+const ANSWERS: [(&str, &[&str]); 14] = [
     ("format", &["0", "-22"]),
     ("open", &["0", "-22"]),
     ("read", &["0", "above 0", "-22", "-117", "-61"]),
@@ -2229,7 +2587,17 @@ const ANSWERS: [(&str, &[&str]); 13] = [
     ("collect_told", &["0", "-22", "-117", "-28", "-121", "-5"]),
     ("collect_list_told", &["0", "above 0", "-22", "-117", "-28", "-121", "-5"]),
     ("collect_threshold_told", &["0", "above 0", "-22", "-117", "-28", "-121", "-5"]),
+    ("restore_dead", &["0", "-22", "-1", "-2", "-3", "-4", "-5", "-6", "-7", "-8", "-9"]),
 ];
+
+/// What restore_dead queued when it was done, and what calls answered that came to its queue; runs of
+/// `all` must meet each so often. A live one is full and has a list of length p.
+const AFTER_DEAD: [(&str, &[&str]); 3] = [
+    ("queued by it", &["none", "one", "more", "not a live one"]),
+    ("collected after it", &["0", "above 0", "-14", "-5"]),
+    ("written after it", &["0", "above 0", "-14", "-5"]),
+];
+const OFTEN: u64 = 100;
 
 struct Options {
     part: String,
@@ -2257,7 +2625,7 @@ fn options() -> Option<Options> {
     if options.seconds == f64::INFINITY && options.calls == u64::MAX {
         options.seconds = 60.0;
     }
-    let others = ["all", "selftest", "runs", "extremes", "words", "numbers"];
+    let others = ["all", "selftest", "runs", "extremes", "words", "files", "numbers"];
     let mut names = others.into_iter().chain(PARTS.map(|(name, _)| name));
     let known = names.any(|name| name == options.part);
     known.then_some(options)
@@ -2280,6 +2648,7 @@ impl Driver {
         }
         self.extremes()?;
         self.words()?;
+        self.files()?;
         loop {
             for _ in 0..200 {
                 self.run()?;
@@ -2294,6 +2663,7 @@ impl Driver {
             "all" => return self.everything(),
             "extremes" => return self.extremes(),
             "words" => return self.words(),
+            "files" => return self.files(),
             _ => (),
         }
         loop {
@@ -2304,16 +2674,25 @@ impl Driver {
         }
     }
 
+    /// How many restores queued a dead segment.
+    fn queued_some(&self) -> u64 {
+        let times = |class: &str| self.tally.get(&("queued by it", class.into())).copied().unwrap_or(0);
+        times("one") + times("more")
+    }
+
     /// Prints what was met; false when `all` missed an answer, or a strange one came.
     fn print_tally(&self, all: bool) -> bool {
         let mut right = true;
-        for (entry, classes) in ANSWERS {
+        let rows = || ANSWERS.into_iter().chain(AFTER_DEAD);
+        for (entry, classes) in rows() {
             let met: Vec<String> = (self.tally.iter().filter(|((name, _), _)| *name == entry))
                 .map(|((_, class), times)| format!("{class}: {times}"))
                 .collect();
             println!("  {entry:22} {}", met.join("  "));
+            let owed = if AFTER_DEAD.iter().any(|(name, _)| *name == entry) { OFTEN } else { 1 };
             for class in classes.iter().filter(|_| all) {
-                if !self.tally.contains_key(&(entry, class.to_string())) {
+                let times = self.tally.get(&(entry, class.to_string())).copied().unwrap_or(0);
+                if times < owed {
                     println!("  NOT MET: {entry} {class}");
                     right = false;
                 }
@@ -2321,7 +2700,7 @@ impl Driver {
         }
         for (entry, class) in self.tally.keys() {
             let listed = |list: &[&str]| list.contains(&&class[..]);
-            if !ANSWERS.iter().any(|(name, list)| name == entry && listed(list)) {
+            if !rows().any(|(name, list)| name == *entry && listed(list)) {
                 println!("  STRANGE: {entry} {class}");
                 right = false;
             }
@@ -2358,8 +2737,8 @@ fn compare_part(options: &Options) -> bool {
     let stopped = driver.chosen(&options.part);
     let seconds = driver.started.elapsed().as_secs_f64();
     let met = driver.print_tally(all);
-    let (calls, told) = (driver.calls, driver.told);
-    println!("{told} of the calls made in the new numbers too");
+    let (calls, told, restores, some) = (driver.calls, driver.told, driver.restores, driver.queued_some());
+    println!("{told} of the calls made in the new numbers too; {restores} restores with and without the dead queued, {some} of them queued some");
     println!("seed {}, {calls} calls compared in {seconds:.1} s", options.seed);
     match stopped {
         Err(Stop::Found(report)) => {

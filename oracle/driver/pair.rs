@@ -1,6 +1,6 @@
 //! The port and the Rust side by side: each call is made on both, and everything is compared after it.
 use crate::calls::{Call, Case};
-use crate::port::{self, Geometry, Numbers::Old, Unit};
+use crate::port::{self, Geometry, Numbers::Old, Queueing::Empty, Unit};
 use originals::{Original, Shape};
 
 /// What is compared, in the order in which it is.
@@ -181,8 +181,8 @@ impl Pair {
                 *out = (vec![FILLING; g.checkpoint_bytes()], rust.encode());
                 (port::encode(g, unit, &mut out.0), out.1.len() as i64)
             }
-            Call::RestoreLast => (port::restore(g, last, unit), rust.restore(last)),
-            Call::Restore(file) => (port::restore(g, file, unit), rust.restore(file)),
+            Call::RestoreLast => (port::restore(g, Empty, last, unit), rust.restore(last)),
+            Call::Restore(file) => (port::restore(g, Empty, file, unit), rust.restore(file)),
             Call::Open(alloc) => {
                 if let Some(alloc) = alloc {
                     *unit.alloc_mut(g) = *alloc;

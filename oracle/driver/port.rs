@@ -61,7 +61,7 @@ entries! {
     shr_encode(tab: *const u32, tab_len: usize, used: *const u8, used_len: usize,
         buffer: *mut u8, buffer_len: usize, seen: *mut u8, seen_len: usize) -> i64;
     shr_restore(file: *const u8, file_len: usize, tab: *mut u32, tab_len: usize,
-        used: *mut u8, used_len: usize, taken: *mut u8, taken_len: usize) -> i64;
+        used: *mut u8, used_len: usize, taken: *mut u8, taken_len: usize) -> i64, shr_restore_dead;
     shr_tab_words() -> usize;
     shr_used_bytes() -> usize;
     shr_flash_bytes() -> usize;
@@ -80,6 +80,13 @@ entries! {
 pub enum Numbers {
     Old,
     New,
+}
+
+/// What a restore queues: nothing, or the dead segments of 02, M-109.
+#[derive(Clone, Copy, PartialEq, Eq, Debug)]
+pub enum Queueing {
+    Empty,
+    Dead,
 }
 
 /// The six numbers of a device.
@@ -340,8 +347,12 @@ pub fn encode(g: &Geometry, u: &mut Unit, buffer: &mut [u8]) -> i64 {
         buffer.as_mut_ptr(), buffer.len(), u.seen.as_mut_ptr(), u.seen.len())
 }
 
-pub fn restore(g: &Geometry, file: &[u8], u: &mut Unit) -> i64 {
-    call!(shr_restore, g, file.as_ptr(), file.len(),
+pub fn restore(g: &Geometry, queueing: Queueing, file: &[u8], u: &mut Unit) -> i64 {
+    let f = match queueing {
+        Queueing::Empty => shr_restore,
+        Queueing::Dead => shr_restore_dead,
+    };
+    call!(f, g, file.as_ptr(), file.len(),
         u.tab.as_mut_ptr(), u.tab.len(), u.used.as_mut_ptr(), u.used.len(),
         u.taken.as_mut_ptr(), u.taken.len())
 }

@@ -3,7 +3,7 @@
 //! Where 01 rules otherwise than the Rust, this layer follows 01: an allocation segment >= n
 //! becomes 0 before `open`; a restore is tried on a second FTL and taken over only if it succeeds,
 //! so a refused one leaves the tables.
-use crate::bits::get_bit;
+use crate::bits::{get_bit, set_bit};
 use crate::device::{device, set_address_width, DeviceDirection, Request};
 use crate::flash::Flash;
 use crate::ftl::{page_core, page_gc, PageFtl, THRESHOLD_PAGES};
@@ -189,6 +189,22 @@ impl Original {
             self.ftl = other;
         }
         answer
+    }
+
+    /// 02, M-109: `restore`, then each segment with free count 0 and a list shorter than p is queued, ascending, its flag
+    /// set. The Rust has no counterpart; the queueing is plain.rs's rule over the originals' own structures.
+    pub fn restore_dead(&mut self, file: &[u8]) -> i64 {
+        let answer = self.restore(file);
+        if answer != 0 {
+            return answer;
+        }
+        for g in 0..self.shape.n {
+            if self.free(g) == 0 && self.list(g).len() < self.shape.p {
+                self.ftl.gc_list.push(g);
+                set_bit(&mut self.ftl.gc_seg_bits, g as u64);
+            }
+        }
+        0
     }
 
     /// The file that the original `close` writes; the tables are gone then.

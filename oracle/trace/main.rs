@@ -1,5 +1,5 @@
-//! oracle_trace: document 01's program `trace`, its work done by the Rust originals. It reads a trace
-//! from standard input and prints 01's lines; the stored answers are made with it.
+//! oracle_trace: document 01's program `trace`, its work done by the Rust originals, all but the queueing of record 6.
+//! It reads a trace from standard input and prints 01's lines; the stored answers are made with it.
 //!
 //!   oracle_trace < FILE.bin
 //!   oracle_trace FILE.bin...     writes FILE.out beside each
@@ -97,6 +97,8 @@ fn record(reader: &mut Reader, device: &mut Original, last: &mut Vec<u8>, out: &
             line(out, 'c', last.len() as i64);
         }
         5 => line(out, 's', device.restore(last)),
+        // 02, M-109. The Rust has no counterpart: its own restore, then plain.rs's rule.
+        6 => line(out, 's', device.restore_dead(last)),
         _ => return Err(Malformed),
     }
     Ok(())

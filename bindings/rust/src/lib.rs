@@ -18,7 +18,7 @@
 //! unit.open()?;
 //! unit.write_told(5, b"1.32")?;
 //! let file = unit.checkpoint()?;
-//! unit.restore(&file)?;
+//! unit.restore_dead(&file)?;
 //! let mut out = [0; 4];
 //! assert_eq!(unit.read(5, &mut out), Ok(4));
 //! assert_eq!(&out, b"1.32");
@@ -119,7 +119,7 @@ pub fn crc32(xs: &[u8]) -> u32 {
     unsafe { raw::shr_crc32(xs.as_ptr(), xs.len()) }
 }
 
-/// The mapping's tables: lost with the power, made again by [`Ftl::restore`].
+/// The mapping's tables: lost with the power, made again by [`Ftl::restore_dead`].
 pub struct Tables<'a> {
     /// Map, free, valid, list lengths, queue, flags, allocation segment, queue length, lists.
     pub tab: &'a mut [u32],
@@ -195,6 +195,20 @@ macro_rules! collects {
                 f.bytes.as_mut_ptr(), f.bytes.len(), f.marks.as_mut_ptr(), f.marks.len(),
                 f.counts.as_mut_ptr(), f.counts.len(), f.fuse,
                 c.page.as_mut_ptr(), c.page.len(), c.seen.as_mut_ptr(), c.seen.len(), c.order.as_mut_ptr(), c.order.len(),
+            )
+        })
+    }};
+}
+
+#[rustfmt::skip]
+macro_rules! restores {
+    ($unit:expr, $call:ident, $file:expr) => {{
+        let (g, t, c) = ($unit.geo, &mut $unit.tables, &mut $unit.scratch);
+        restored(unsafe {
+            raw::$call(
+                g.n, g.p, g.s, g.w, g.e, g.limit,
+                $file.as_ptr(), $file.len(), t.tab.as_mut_ptr(), t.tab.len(), t.used.as_mut_ptr(), t.used.len(),
+                c.taken.as_mut_ptr(), c.taken.len(),
             )
         })
     }};
@@ -292,16 +306,15 @@ impl Ftl<'_> {
         })
     }
 
-    /// Makes the tables of a checkpoint, whatever they held. Answers 0; a reason changes nothing.
+    /// Makes the tables of a checkpoint, whatever they held; the queue is empty. Answers 0; a reason changes nothing. For new programs:
+    /// [`Ftl::restore_dead`].
     pub fn restore(&mut self, file: &[u8]) -> Result<usize, Refusal> {
-        let (g, t, c) = (self.geo, &mut self.tables, &mut self.scratch);
-        restored(unsafe {
-            raw::shr_restore(
-                g.n, g.p, g.s, g.w, g.e, g.limit,
-                file.as_ptr(), file.len(), t.tab.as_mut_ptr(), t.tab.len(), t.used.as_mut_ptr(), t.used.len(),
-                c.taken.as_mut_ptr(), c.taken.len(),
-            )
-        })
+        restores!(self, shr_restore, file)
+    }
+
+    /// The same, and each segment with free count 0 and a list shorter than p is queued, ascending, its flag set.
+    pub fn restore_dead(&mut self, file: &[u8]) -> Result<usize, Refusal> {
+        restores!(self, shr_restore_dead, file)
     }
 
     /// A look into the tables, whatever they hold; or `Wrong` where they do not have their size.

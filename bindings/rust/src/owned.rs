@@ -115,6 +115,11 @@ impl OwnedFtl {
         self.lend().restore(file)
     }
 
+    /// See [`Ftl::restore_dead`].
+    pub fn restore_dead(&mut self, file: &[u8]) -> Result<usize, Refusal> {
+        self.lend().restore_dead(file)
+    }
+
     /// The checkpoint as a file of its own.
     pub fn checkpoint(&mut self) -> Result<Vec<u8>, Refusal> {
         let mut file = vec![0; self.geo.sizes()?.checkpoint];

@@ -77,6 +77,11 @@ extern "C" {
         file: *const u8, file_len: usize, tab: *mut u32, tab_len: usize, used: *mut u8, used_len: usize,
         taken: *mut u8, taken_len: usize,
     ) -> i64;
+    pub fn shr_restore_dead(
+        n: usize, p: usize, s: usize, w: usize, e: usize, limit: usize,
+        file: *const u8, file_len: usize, tab: *mut u32, tab_len: usize, used: *mut u8, used_len: usize,
+        taken: *mut u8, taken_len: usize,
+    ) -> i64;
     pub fn shr_tab_words(n: usize, p: usize, s: usize, w: usize, e: usize, limit: usize) -> usize;
     pub fn shr_used_bytes(n: usize, p: usize, s: usize, w: usize, e: usize, limit: usize) -> usize;
     pub fn shr_flash_bytes(n: usize, p: usize, s: usize, w: usize, e: usize, limit: usize) -> usize;

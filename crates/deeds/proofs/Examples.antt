@@ -1,8 +1,8 @@
--- All that the program writes on the 31 traces of tests/traces.txt, one table by computation: 01's example, the three ways to stop, restores with
+-- All that the program writes on the 34 traces of tests/traces.txt, one table by computation: 01's example, the three ways to stop, restores with
 -- and without a checkpoint, and the limits of the header, of a number and of a read. Too long an input is a theorem besides, `too-long`.
 use Prim.Native.Nat.{ℕ, _<_}
 use mathlib.Core.Path.{_≡_, refl}
-use mathlib.Core.List.{List, [], _∷_, map}
+use mathlib.Core.List.{List, [], _∷_, _++_, map}
 use lib.ListN.{length, replicate}
 use borrow.Author.Tests.{lt-ltb}
 use Rattle.crc32.specs.Crc32.{plus, add, among, powers, low, remainder, bitsOf, bits, digit, number as valueOf, dividend, crc32}
@@ -14,7 +14,7 @@ use Rattle.model.specs.Device.{burn, mayProgram, mayErase, formatFrom}
 use Rattle.model.specs.PageMap.{clearFrom, findFrom, find, invalidate, forget}
 use Rattle.model.specs.PageWrite.{oldPage, writeAt, writePage}
 use Rattle.model.specs.PageGc.{sorted, finishOf, drain, collectOf, collect, collectMore, collectList}
-use Rattle.model.specs.Checkpoint.{usedBy, word, long, words, wordAt, longAt, wordsAt, head, file, reasonOf, welcome, settleAll, restored}
+use Rattle.model.specs.Checkpoint.{usedBy, word, long, words, wordAt, longAt, wordsAt, head, file, reasonOf, welcome, settleAll, restored, queueDead}
 use Rattle.model.specs.Entry.{unless, guarded, clean, formatting, opening, read, encoding, restoring, write, collection, listCollection}
 use Rattle.numbers.specs.Groups.{longer, groups}
 use Rattle.records.specs.Trace.{marking, header, writeRecord, readRecord, listRecord, recordOf}
@@ -75,6 +75,27 @@ sample-text =
     ∷ 109 ∷ 32 ∷ 49 ∷ 46 ∷ 49 ∷ 32 ∷ 49 ∷ 46 ∷ 48 ∷ 32 ∷ 45 ∷ 10
     ∷ []
 
+-- five writes of a byte to page 0, a checkpoint, this record, a collection, two writes more
+abbrev five : List ℕ
+five = 0 ∷ 0 ∷ 1 ∷ 97 ∷ 0 ∷ 0 ∷ 1 ∷ 97 ∷ 0 ∷ 0 ∷ 1 ∷ 97 ∷ 0 ∷ 0 ∷ 1 ∷ 97 ∷ 0 ∷ 0 ∷ 1 ∷ 97 ∷ []
+
+abbrev filled : List ℕ → List ℕ
+filled restore = five ++ (4 ∷ restore) ++ (2 ∷ 0 ∷ 0 ∷ 1 ∷ 97 ∷ 0 ∷ 0 ∷ 1 ∷ 97 ∷ [])
+
+-- "w 1" five times, "c 68", "s 0", "g 0", "w 1", and what follows
+abbrev filled-text : List ℕ → List ℕ
+filled-text rest =
+    119 ∷ 32 ∷ 49 ∷ 10
+    ∷ 119 ∷ 32 ∷ 49 ∷ 10
+    ∷ 119 ∷ 32 ∷ 49 ∷ 10
+    ∷ 119 ∷ 32 ∷ 49 ∷ 10
+    ∷ 119 ∷ 32 ∷ 49 ∷ 10
+    ∷ 99 ∷ 32 ∷ 54 ∷ 56 ∷ 10
+    ∷ 115 ∷ 32 ∷ 48 ∷ 10
+    ∷ 103 ∷ 32 ∷ 48 ∷ 10
+    ∷ 119 ∷ 32 ∷ 49 ∷ 10
+    ∷ rest
+
 -- ---- the table
 
 rows : List Row
@@ -91,6 +112,14 @@ rows =
     ∷ row (device (5 ∷ [])) (115 ∷ 32 ∷ 33 ∷ 49 ∷ 10 ∷ m-3)
     -- a checkpoint and two restores: "c 68", "s 0", "s 0"
     ∷ row (device (4 ∷ 5 ∷ 5 ∷ [])) (99 ∷ 32 ∷ 54 ∷ 56 ∷ 10 ∷ 115 ∷ 32 ∷ 48 ∷ 10 ∷ 115 ∷ 32 ∷ 48 ∷ 10 ∷ m-3)
+    -- 02, M-109: "a new record 6 (also `s`)", without a checkpoint: "s !1"
+    ∷ row (device (6 ∷ [])) (115 ∷ 32 ∷ 33 ∷ 49 ∷ 10 ∷ m-3)
+    -- five writes of page 0, a checkpoint, a restore, a collection, two writes. By record 5 nothing is collected: "g 0", "w 1", "w !14", "m 2.1 - -"
+    ∷ row (device (filled (5 ∷ [])))
+    (filled-text (119 ∷ 32 ∷ 33 ∷ 49 ∷ 52 ∷ 10 ∷ 109 ∷ 32 ∷ 50 ∷ 46 ∷ 49 ∷ 32 ∷ 45 ∷ 32 ∷ 45 ∷ 10 ∷ []))
+    -- by record 6 segment 0 is: "g 0", "w 1", "w 1", "m 0.0 - -"
+    ∷ row (device (filled (6 ∷ [])))
+    (filled-text (119 ∷ 32 ∷ 49 ∷ 10 ∷ 109 ∷ 32 ∷ 48 ∷ 46 ∷ 48 ∷ 32 ∷ 45 ∷ 32 ∷ 45 ∷ 10 ∷ []))
     -- n·p 1,024 and 1,025; s 512 and 513; n·p·s 32,768 and 33,280
     ∷ row (128 ∷ 8 ∷ 1 ∷ 1 ∷ 0 ∷ 1 ∷ 0 ∷ 0 ∷ []) m-1
     ∷ row (129 ∷ 8 ∷ 1 ∷ 1 ∷ 0 ∷ 1 ∷ 0 ∷ 0 ∷ []) t-2
@@ -128,7 +157,7 @@ told : map (λ r. output (r .input)) rows ≡ map (λ r. r .text) rows
 unfolding
     rows without pushFront insertBy sortBy splice total occ all every blank upTo good? view packed names soundb burn mayProgram mayErase
     formatFrom clearFrom findFrom find invalidate forget oldPage writeAt writePage sorted finishOf drain collectOf collect collectMore
-    collectList usedBy word long words wordAt longAt wordsAt head file reasonOf welcome settleAll restored unless guarded clean formatting
+    collectList usedBy word long words wordAt longAt wordsAt head file reasonOf welcome settleAll restored queueDead unless guarded clean formatting
     opening read encoding restoring write collection listCollection plus add among powers low remainder bitsOf bits digit valueOf dividend
     crc32 longer groups marking header writeRecord readRecord listRecord recordOf digits hex entries lines output
 told = refl

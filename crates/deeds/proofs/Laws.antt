@@ -14,6 +14,7 @@ use mir.Val.{SFits, toZ, ofZ}
 use mir.ValLaws.{toZ-ofZ}
 use borrow.Author.Needs.{sfits-of, zero≤}
 use Rattle.model.specs.declared.Geometry.{Geometry}
+use Rattle.model.specs.declared.Queueing.{Queueing}
 use Rattle.model.specs.Lists.{splice}
 use Rattle.model.specs.declared.Numbers.the-variants.{Old}
 use Rattle.model.specs.Numbers.{number}
@@ -106,13 +107,13 @@ reading r out f q h =
 
 -- restoring what equals the file
 pub restores
-    : (G : Geometry) (x : Lent) {b b′ : List ℕ} {u : Recorder} {d : List ℕ} {r : ℤ}
+    : (G : Geometry) (q : Queueing) (x : Lent) {b b′ : List ℕ} {u : Recorder} {d : List ℕ} {r : ℤ}
     → b ≡ b′
     → mag r < 9223372036854775808
-    → Does (restoring G b x) u d r
-    → Does (restoring G b′ x) u d (held r)
-restores G x {u = u} {d} {r} q l D =
-    subst (λ b. Does (restoring G b x) u d (held r)) q
+    → Does (restoring G q b x) u d r
+    → Does (restoring G q b′ x) u d (held r)
+restores G q x {u = u} {d} {r} e l D =
+    subst (λ b. Does (restoring G q b x) u d (held r)) e
     (record { unit-is = D .unit-is; buffer-is = D .buffer-is; answer-is = toZ-ofZ w64 r (sfits-of l) ∙ D .answer-is })
 
 -- a turn: no record, or one that was done and whose line was laid

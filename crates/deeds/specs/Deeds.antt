@@ -48,7 +48,7 @@ lineOf (Read sector len) r out = readLine (countOf r) r out
 lineOf Collect r out = answerLine 103 r
 lineOf (CollectList m) r out = answerLine 108 r
 lineOf Checkpoint r out = answerLine 99 r
-lineOf Restore r out = answerLine 115 r
+lineOf (Restore q) r out = answerLine 115 r
 
 -- "the last checkpoint, which is empty at first": what an encoding gives that is not refused
 abbrev pub encoded : Count → ℕ → ℕ
@@ -61,7 +61,7 @@ storedOf (Read sector len) r stored = stored
 storedOf Collect r stored = stored
 storedOf (CollectList m) r stored = stored
 storedOf Checkpoint r stored = encoded (countOf r) stored
-storedOf Restore r stored = stored
+storedOf (Restore q) r stored = stored
 
 -- the buffers after a call that left b
 abbrev pub outOf : Record → List ℕ → List ℕ → List ℕ
@@ -70,7 +70,7 @@ outOf (Read sector len) b out = b
 outOf Collect b out = out
 outOf (CollectList m) b out = out
 outOf Checkpoint b out = out
-outOf Restore b out = out
+outOf (Restore q) b out = out
 
 abbrev pub fileOf : Record → List ℕ → List ℕ → List ℕ
 fileOf (Write sector len at) b file = file
@@ -78,7 +78,7 @@ fileOf (Read sector len) b file = file
 fileOf Collect b file = file
 fileOf (CollectList m) b file = file
 fileOf Checkpoint b file = b
-fileOf Restore b file = file
+fileOf (Restore q) b file = file
 
 module _ (G : Geometry) (bad xs : List ℕ) where
   -- the public call of a record, with clean scratch
@@ -88,7 +88,7 @@ module _ (G : Geometry) (bad xs : List ℕ) where
   callOf k Collect = call.Collect (zeros (pageScratch G) ∷ zeros (seenScratch G) ∷ zeros (G .n) ∷ [])
   callOf k (CollectList m) = call.CollectList m (zeros (pageScratch G) ∷ zeros (seenScratch G) ∷ zeros (G .n) ∷ [])
   callOf k Checkpoint = call.Encode (k .file) (zeros (seenScratch G) ∷ [])
-  callOf k Restore = call.Restore (take (k .stored) (k .file)) (zeros (pages G) ∷ [])
+  callOf k (Restore q) = call.Restore q (take (k .stored) (k .file)) (zeros (pages G) ∷ [])
 
   abbrev pub done : Kept → Record → Outcome
   done k r = call.run G bad (callOf k r) (k .unit)

@@ -11,6 +11,7 @@ ghost use Rattle.records.specs.Trace.{Within, nextRecord};
 ghost use Rattle.lending.specs.Does.{Small, Does};
 ghost use Rattle.deeds.specs.Deeds.{kept, countOf, readLine, lineOf, encoded, storedOf, Performed, Turned};
 use model::Geometry;
+use model::Queueing;
 use records::Next;
 use records::Record;
 
@@ -66,7 +67,7 @@ fn put_line(rec: Record, r: i64, out: &[u8], line: &mut [u8]) -> usize
         Record::Collect => lines::put_answer(b'g', r, line),
         Record::CollectList(m) => lines::put_answer(b'l', r, line),
         Record::Checkpoint => lines::put_answer(b'c', r, line),
-        Record::Restore => lines::put_answer(b's', r, line),
+        Record::Restore(queueing) => lines::put_answer(b's', r, line),
     }
 }
 
@@ -89,19 +90,26 @@ fn stored_of(rec: Record, r: i64, stored: usize) -> usize
         Record::Collect => stored,
         Record::CollectList(m) => stored,
         Record::Checkpoint => encoded(count_of(r), stored),
-        Record::Restore => stored,
+        Record::Restore(queueing) => stored,
     }
 }
 
 // The tables of the last checkpoint.
-fn restore(geo: Geometry, stored: usize, file: &[u8], tab: &mut [u32], used: &mut [u8]) -> i64
+fn restore(
+    geo: Geometry,
+    queueing: Queueing,
+    stored: usize,
+    file: &[u8],
+    tab: &mut [u32],
+    used: &mut [u8],
+) -> i64
     requires { ⌜ Small geo ⌝ }
     ensures { λ r. ⌜ Does
-        (restoring geo (take stored (now (file .entry))) (lent (recorder (now (tab .entry)) (now (used .entry)) noFlash) [] (zeros (pages geo) ∷ [])))
+        (restoring geo queueing (take stored (now (file .entry))) (lent (recorder (now (tab .entry)) (now (used .entry)) noFlash) [] (zeros (pages geo) ∷ [])))
         (recorder (now (tab .exit)) (now (used .exit)) noFlash) [] r ⌝ }
 {
     let k = least(stored, file.len());
-    lending::restore(geo, &file[0..k], tab, used)
+    lending::restore(geo, queueing, &file[0..k], tab, used)
 }
 
 // The call of a record.
@@ -150,7 +158,7 @@ fn perform(
             lending::collect_list(geo, m, bad, tab, used, bytes, marks, counts, fuse)
         }
         Record::Checkpoint => lending::encode(geo, tab, used, file),
-        Record::Restore => restore(geo, stored, file, tab, used),
+        Record::Restore(queueing) => restore(geo, queueing, stored, file, tab, used),
     }
 }
 

@@ -22,6 +22,7 @@ use Rattle.model.specs.Device.{Flash, flash}
 use Rattle.model.specs.Checkpoint.{fileSize}
 use Rattle.model.specs.Entry.{Recorder, recorder, Lent, lent, Outcome, outcome, Promise, PromiseIn, noFlash}
 use Rattle.model.specs.Entry.{formatting, opening, read, encoding, restoring}
+use Rattle.model.specs.declared.Queueing.{Queueing}
 use Rattle.model.specs.History.{Call, Format, Open, Read, Write, Encode, Restore}
 use Rattle.model.specs.History.{run, contentOf, Reached, Since, lost, GivesBack}
 use Rattle.model.proofs.Guard.{guarded-by}
@@ -73,10 +74,10 @@ module _ (G : Geometry) (bad : List ℕ) where
       → Promise (run G bad (Encode b s) (recorder w u f)) (lent (recorder w u f) b′ s′) z
   encode-runs f w u b b′ s s′ z P = beside (withFlash f) (encoding-alone G f (lent (recorder w u noFlash) b s)) P
 
-  pub restore-runs : (f : Flash) (b w u w′ u′ : List ℕ) (s s′ : List (List ℕ)) (z : ℤ)
-      → Promise (restoring G b (lent (recorder w u noFlash) [] s)) (lent (recorder w′ u′ noFlash) [] s′) z
-      → Promise (run G bad (Restore b s) (recorder w u f)) (lent (recorder w′ u′ f) [] s′) z
-  restore-runs f b w u w′ u′ s s′ z P = beside (withFlash f) (restoring-alone G f b (lent (recorder w u noFlash) [] s)) P
+  pub restore-runs : (f : Flash) (q : Queueing) (b w u w′ u′ : List ℕ) (s s′ : List (List ℕ)) (z : ℤ)
+      → Promise (restoring G q b (lent (recorder w u noFlash) [] s)) (lent (recorder w′ u′ noFlash) [] s′) z
+      → Promise (run G bad (Restore q b s) (recorder w u f)) (lent (recorder w′ u′ f) [] s′) z
+  restore-runs f q b w u w′ u′ s s′ z P = beside (withFlash f) (restoring-alone G f q b (lent (recorder w u noFlash) [] s)) P
 
   -- ---- the first demand: each answer is one of 01's or 02's numbers, given exactly when they say, and a refusal leaves what they name
 
@@ -190,47 +191,47 @@ encode-moved G x m =
 -- `encode` wrote the file b′ at a recorder; `back`: whatever has happened to a recorder r since, as h says, the file gives everything back. Then
 -- `restore` is lent that file, any words and use marks of the right sizes, and clean marks: it answers 0, and over the flash as it stands each
 -- logical page holds what it held when the checkpoint was taken.
-restored-back : (G : Geometry) (bad : List ℕ) (H : List ℕ → Recorder → Type 0) (w₀ u₀ : List ℕ) (f₀ : Flash) (b b′ : List ℕ) (s s′ : List (List ℕ)) (m : ℕ)
+restored-back : (G : Geometry) (bad : List ℕ) (q : Queueing) (H : List ℕ → Recorder → Type 0) (w₀ u₀ : List ℕ) (f₀ : Flash) (b b′ : List ℕ) (s s′ : List (List ℕ)) (m : ℕ)
     → Promise (encoding G (lent (recorder w₀ u₀ noFlash) b s)) (lent (recorder w₀ u₀ noFlash) b′ s′) (pos m)
     → ((r : Recorder) → run G bad (Encode b s) (recorder w₀ u₀ f₀) .answer ≡ Moved m
     → H (take m (run G bad (Encode b s) (recorder w₀ u₀ f₀) .left .buffer)) r → length (r .words) ≡ tabWords G → length (r .used) ≡ pages G
-    → GivesBack G bad (recorder w₀ u₀ f₀) (take m (run G bad (Encode b s) (recorder w₀ u₀ f₀) .left .buffer)) r)
+    → GivesBack G bad (recorder w₀ u₀ f₀) (take m (run G bad (Encode b s) (recorder w₀ u₀ f₀) .left .buffer)) q r)
     → (r : Recorder) → H (take m b′) r → length (r .words) ≡ tabWords G → length (r .used) ≡ pages G
     → (w u : List ℕ) (t : List (List ℕ)) (z : ℤ)
-    → Promise (restoring G (take m b′) (lent (recorder (r .words) (r .used) noFlash) [] (zeros (pages G) ∷ []))) (lent (recorder w u noFlash) [] t) z
+    → Promise (restoring G q (take m b′) (lent (recorder (r .words) (r .used) noFlash) [] (zeros (pages G) ∷ []))) (lent (recorder w u noFlash) [] t) z
     → (z ≡ pos 0) × ((l : ℕ) → contentOf G (recorder w u (r .flash)) l ≡ contentOf G (recorder w₀ u₀ f₀) l)
-restored-back G bad H w₀ u₀ f₀ b b′ s s′ m E back r h hw hu w u t z P =
+restored-back G bad q H w₀ u₀ f₀ b b′ s s′ m E back r h hw hu w u t z P =
     let r₀ : Recorder = recorder w₀ u₀ f₀ in
     let e = encode-runs G bad f₀ w₀ u₀ b b′ s s′ (pos m) E in
     let file : b′ ≡ run G bad (Encode b s) r₀ .left .buffer = ap (λ (x : Lent). x .buffer) (e .left-is) in
-    let B : GivesBack G bad r₀ (take m b′) r =
-    subst (λ (z : List ℕ). GivesBack G bad r₀ (take m z) r) (sym file)
+    let B : GivesBack G bad r₀ (take m b′) q r =
+    subst (λ (z : List ℕ). GivesBack G bad r₀ (take m z) q r) (sym file)
     (back r (encode-moved G (lent r₀ b s) m (e .answer-is)) (subst (λ (z : List ℕ). H (take m z) r) file h) hw hu) in
-    let p = restore-runs G bad (r .flash) (take m b′) (r .words) (r .used) w u (zeros (pages G) ∷ []) t z P in
+    let p = restore-runs G bad (r .flash) q (take m b′) (r .words) (r .used) w u (zeros (pages G) ∷ []) t z P in
     (p .answer-is ∙ ap (number Old) (B .answer), λ l. ap (λ (r : Recorder). contentOf G r l) (ap (λ (x : Lent). x .unit) (p .left-is)) ∙ B .contents l)
 
 -- The demand as it was made (`Since`): since the checkpoint there was no opening, no restore of another, and no erase begun in a segment holding a page
 -- mapped then. The power may have gone at any device operation, as often as it liked; between a cut and the restore, over the lost tables, no call did a
 -- device operation but formatting.
-pub given-back : (G : Geometry) (bad : List ℕ) (w₀ u₀ : List ℕ) (f₀ : Flash) (b b′ : List ℕ) (s s′ : List (List ℕ)) (m : ℕ)
+pub given-back : (G : Geometry) (bad : List ℕ) (q : Queueing) (w₀ u₀ : List ℕ) (f₀ : Flash) (b b′ : List ℕ) (s s′ : List (List ℕ)) (m : ℕ)
     → Promise (encoding G (lent (recorder w₀ u₀ noFlash) b s)) (lent (recorder w₀ u₀ noFlash) b′ s′) (pos m)
     → (r : Recorder) → Since G bad (recorder w₀ u₀ f₀) (take m b′) lost r → length (r .words) ≡ tabWords G → length (r .used) ≡ pages G
     → (w u : List ℕ) (t : List (List ℕ)) (z : ℤ)
-    → Promise (restoring G (take m b′) (lent (recorder (r .words) (r .used) noFlash) [] (zeros (pages G) ∷ []))) (lent (recorder w u noFlash) [] t) z
+    → Promise (restoring G q (take m b′) (lent (recorder (r .words) (r .used) noFlash) [] (zeros (pages G) ∷ []))) (lent (recorder w u noFlash) [] t) z
     → (z ≡ pos 0) × ((l : ℕ) → contentOf G (recorder w u (r .flash)) l ≡ contentOf G (recorder w₀ u₀ f₀) l)
-given-back G bad w₀ u₀ f₀ b b′ s s′ m E =
-    restored-back G bad (λ file r. Since G bad (recorder w₀ u₀ f₀) file lost r) w₀ u₀ f₀ b b′ s s′ m E
-    (λ r e h hw hu. cut-restores G bad (recorder w₀ u₀ f₀) b s m e h hw hu)
+given-back G bad q w₀ u₀ f₀ b b′ s s′ m E =
+    restored-back G bad q (λ file r. Since G bad (recorder w₀ u₀ f₀) file lost r) w₀ u₀ f₀ b b′ s s′ m E
+    (λ r e h hw hu. cut-restores G bad (recorder w₀ u₀ f₀) b s m e h hw hu q)
 
 -- And of a unit from its opening on (`FromOpening`) the same with no premise but the erases (`Ever`): openings, restores of other files and calls of every
 -- kind over any tables, lost ones too, may have come since. The device's own rule, a marked page is not programmed again, guards each page that was mapped.
-pub unit-given-back : (G : Geometry) (bad : List ℕ) (w₀ u₀ : List ℕ) (f₀ : Flash) (b b′ : List ℕ) (s s′ : List (List ℕ)) (m : ℕ)
+pub unit-given-back : (G : Geometry) (bad : List ℕ) (q : Queueing) (w₀ u₀ : List ℕ) (f₀ : Flash) (b b′ : List ℕ) (s s′ : List (List ℕ)) (m : ℕ)
     → FromOpening G bad (recorder w₀ u₀ f₀)
     → Promise (encoding G (lent (recorder w₀ u₀ noFlash) b s)) (lent (recorder w₀ u₀ noFlash) b′ s′) (pos m)
     → (r : Recorder) → Ever G bad (recorder w₀ u₀ f₀) r → length (r .words) ≡ tabWords G → length (r .used) ≡ pages G
     → (w u : List ℕ) (t : List (List ℕ)) (z : ℤ)
-    → Promise (restoring G (take m b′) (lent (recorder (r .words) (r .used) noFlash) [] (zeros (pages G) ∷ []))) (lent (recorder w u noFlash) [] t) z
+    → Promise (restoring G q (take m b′) (lent (recorder (r .words) (r .used) noFlash) [] (zeros (pages G) ∷ []))) (lent (recorder w u noFlash) [] t) z
     → (z ≡ pos 0) × ((l : ℕ) → contentOf G (recorder w u (r .flash)) l ≡ contentOf G (recorder w₀ u₀ f₀) l)
-unit-given-back G bad w₀ u₀ f₀ b b′ s s′ m U E =
-    restored-back G bad (λ _ r. Ever G bad (recorder w₀ u₀ f₀) r) w₀ u₀ f₀ b b′ s s′ m E
-    (λ r e h hw hu. unit-restores G bad (recorder w₀ u₀ f₀) U b s m e h hw hu)
+unit-given-back G bad q w₀ u₀ f₀ b b′ s s′ m U E =
+    restored-back G bad q (λ _ r. Ever G bad (recorder w₀ u₀ f₀) r) w₀ u₀ f₀ b b′ s s′ m E
+    (λ r e h hw hu. unit-restores G bad (recorder w₀ u₀ f₀) U b s m e h hw hu q)

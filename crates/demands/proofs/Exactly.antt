@@ -26,6 +26,7 @@ use Rattle.model.specs.PageWrite.{whole, writePage}
 use Rattle.model.specs.PageGc.{victim, taken, copyAnswer, lastOf, finishOf, copyOne, drain, collectOf, collect, collectMore, collectList, collectThreshold}
 use Rattle.model.specs.Checkpoint.{fileSize, reasonOf}
 use Rattle.model.specs.Entry.{Recorder, Lent, lent, Outcome, refused}
+use Rattle.model.specs.declared.Queueing.{Queueing}
 use Rattle.model.specs.History.{Call, Format, Open, Read, Write, Collect, CollectList, CollectThreshold, Encode, Restore, run, IsRefused}
 use Rattle.model.specs.Contract.{Fit}
 use Rattle.model.proofs.Working.{Counted}
@@ -89,7 +90,7 @@ module _ (G : Geometry) (bad : List ℕ) where
   deed-plain (CollectList m s) r = pass-plain (collectMore G bad m 0 (stateIn G r) .answer) (more-pass G bad m 0 (stateIn G r))
   deed-plain (CollectThreshold t m s) r = pass-plain (collectThreshold G bad t m (stateIn G r) .answer) (threshold-pass G bad t m (stateIn G r))
   deed-plain (Encode b s) r = tt
-  deed-plain (Restore b s) r = unless-ends (λ y. Plain (y .answer)) _ (Reason (reasonOf G b)) (lent r [] s) _ (λ _. tt) (λ _. tt)
+  deed-plain (Restore q b s) r = unless-ends (λ y. Plain (y .answer)) _ (Reason (reasonOf G b)) (lent r [] s) _ (λ _. tt) (λ _. tt)
 
   -- ---- 22 and 117
 
@@ -202,11 +203,11 @@ module _ (G : Geometry) (bad : List ℕ) where
 
 module _ (G : Geometry) (bad : List ℕ) where
   -- a restore: the reason is that of the first test that fails
-  module _ (b : List ℕ) (s : List (List ℕ)) (r : Recorder) where
+  module _ (q : Queueing) (b : List ℕ) (s : List (List ℕ)) (r : Recorder) where
     abbrev restore : Call
-    restore = Restore b s
+    restore = Restore q b s
 
-    pub restore-exactly : Exactly (run G bad (Restore b s) r .answer ≡ Moved 0) (Passed G bad (Restore b s) r × (reasonOf G b ≡ 0))
+    pub restore-exactly : Exactly (run G bad (Restore q b s) r .answer ≡ Moved 0) (Passed G bad (Restore q b s) r × (reasonOf G b ≡ 0))
     unfolding deed
     restore-exactly =
         in-words G bad restore r (Moved 0) tt
@@ -220,7 +221,7 @@ module _ (G : Geometry) (bad : List ℕ) where
         })
 
     pub reason-exactly : (k : ℕ)
-        → Exactly (run G bad (Restore b s) r .answer ≡ Refused (Reason k)) (Passed G bad (Restore b s) r × ((reasonOf G b ≡ k) × (k ≢ 0)))
+        → Exactly (run G bad (Restore q b s) r .answer ≡ Refused (Reason k)) (Passed G bad (Restore q b s) r × ((reasonOf G b ≡ k) × (k ≢ 0)))
     unfolding deed
     reason-exactly k =
         in-words G bad restore r (Refused (Reason k)) tt
@@ -229,8 +230,8 @@ module _ (G : Geometry) (bad : List ℕ) where
           only =
               unless-ends (λ y. y .answer ≡ Refused (Reason k) → (reasonOf G b ≡ k) × (k ≢ 0)) (eqb (reasonOf G b) 0) _ (lent r [] s) _
               (λ h e.
-              let q : reasonOf G b ≡ k = cc in
-              (q, λ z. eqb-false (reasonOf G b) 0 h (q ∙ z)))
+              let i : reasonOf G b ≡ k = cc in
+              (i, λ z. eqb-false (reasonOf G b) 0 h (i ∙ z)))
               (λ _ e. absurd (let z : _≡_ {A = ℕ} 0 1 = cc in omega arith));
           whenever = λ h.
               unless-ends (λ y. y .answer ≡ Refused (Reason k)) (eqb (reasonOf G b) 0) _ (lent r [] s) _
@@ -777,20 +778,20 @@ module _ (G : Geometry) (bad : List ℕ) where
   plain-exactly (Collect s) r a p = collect-exactly G bad s r a p
   plain-exactly (CollectList m s) r a p = list-exactly G bad m s r a p
   plain-exactly (CollectThreshold t m s) r a p = threshold-exactly G bad t m s r a p
-  plain-exactly (Restore b s) r a p =
-      in-words G bad (Restore b s) r a p
+  plain-exactly (Restore q b s) r a p =
+      in-words G bad (Restore q b s) r a p
       (λ P.
       record {
         only =
-            unless-ends (λ y. y .answer ≡ a → DeedWhen G bad (Restore b s) r a) (eqb (reasonOf G b) 0) _ (lent r [] s) _
+            unless-ends (λ y. y .answer ≡ a → DeedWhen G bad (Restore q b s) r a) (eqb (reasonOf G b) 0) _ (lent r [] s) _
             (λ h e. inr (eqb-false _ _ h, sym e))
             (λ h e. inl (eqb-true _ _ h, sym e));
-        whenever = λ h. sym (ap (λ (y : Outcome). y .answer) (passed-is G bad (Restore b s) r P)) ∙ there P h;
+        whenever = λ h. sym (ap (λ (y : Outcome). y .answer) (passed-is G bad (Restore q b s) r P)) ∙ there P h;
       })
     where
-      there : Passed G bad (Restore b s) r → DeedWhen G bad (Restore b s) r a → run G bad (Restore b s) r .answer ≡ a
-      there P (inl h) = restore-exactly G bad b s r .whenever (P, h .0) ∙ sym (h .1)
-      there P (inr h) = reason-exactly G bad b s r (reasonOf G b) .whenever (P, (refl, h .0)) ∙ sym (h .1)
+      there : Passed G bad (Restore q b s) r → DeedWhen G bad (Restore q b s) r a → run G bad (Restore q b s) r .answer ≡ a
+      there P (inl h) = restore-exactly G bad q b s r .whenever (P, h .0) ∙ sym (h .1)
+      there P (inr h) = reason-exactly G bad q b s r (reasonOf G b) .whenever (P, (refl, h .0)) ∙ sym (h .1)
 
   pub answers-of : (c : Call) (r : Recorder) (a : Answer) → Exactly (run G bad c r .answer ≡ a) (When G bad c r a)
   answers-of c r (Refused Wrong) = wrong-exactly G bad c r

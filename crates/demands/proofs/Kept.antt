@@ -23,7 +23,8 @@ use Rattle.model.specs.Device.{State, state, Out, mayProgram, mayErase, finish,
 use Rattle.model.specs.PageMap.{find, spend, forget}
 use Rattle.model.specs.PageWrite.{oldPage, whole, stored, spent, writeAt, writePage}
 use Rattle.model.specs.PageGc.{victim, taken, cleared, finishOf, lastOf, copyOne, drain, collectOf, collect, collectMore, collectList, collectThreshold}
-use Rattle.model.specs.Checkpoint.{opened, restoredFrom, sealed}
+use Rattle.model.specs.declared.Queueing.{Queueing}
+use Rattle.model.specs.Checkpoint.{opened, restoredBy, sealed}
 use Rattle.model.specs.Entry.{Recorder, Lent, lent, Outcome, back, stateOf, tablesOf, pageScratch, seenScratch, allFits, collecting, formatting, opening, write, collection, listCollection, thresholdCollection, restoring}
 use Rattle.model.specs.History.{Call, Format, Open, Read, Write, Collect, CollectList, CollectThreshold, Encode, Restore, run, after, IsRefused, GivesBack}
 use Rattle.model.specs.Contract.{Fit}
@@ -46,6 +47,7 @@ use Rattle.demands.proofs.Ends.{DrainEnd, DrainEnds, drain-ends}
 use Rattle.demands.proofs.Marked.{ever, marked-restores}
 use Rattle.model.proofs.Restore.{Back}
 use Rattle.model.proofs.Sealed.{comes-back}
+use Rattle.model.proofs.Requeue.{requeued-back}
 use Rattle.model.proofs.Cut.{Encoded, encoded}
 use Rattle.demands.specs.Given.{stateIn, tab}
 use Rattle.demands.specs.Unit.{MarkedAll, MarkedIn, Ordinary, Ever, FromOpening, opens, calls, lends-fuse, regains}
@@ -310,9 +312,9 @@ module _ (G : Geometry) (bad : List ℕ) where
   marked-kept (CollectThreshold t m s) r n h =
       collecting-marked (lent r [] s) _ h (λ K S F. collected-threshold G K bad t m _ S F) (λ K S F. threshold-marked G K bad t m (stateIn G r) S F h)
   marked-kept (Encode b s) r n h = subst (MarkedIn G) (sym (encoding-unit G (lent r b s) .0)) h
-  marked-kept (Restore b s) r n h = go (restored-or G b (lent r [] s))
+  marked-kept (Restore q b s) r n h = go (restored-or G q b (lent r [] s))
     where
-      go : Stayed (lent r [] s) (restoring G b (lent r [] s)) ⊎ Begun G r (restoredFrom G b) (restoring G b (lent r [] s)) → MarkedIn G (after G bad (Restore b s) r)
+      go : Stayed (lent r [] s) (restoring G q b (lent r [] s)) ⊎ Begun G r (restoredBy G q b) (restoring G q b (lent r [] s)) → MarkedIn G (after G bad (Restore q b s) r)
       go (inl y) = stayed-marked (lent r [] s) _ h y
       go (inr y) = absurd (subst IsRefused (y .answer) n)
 
@@ -321,11 +323,11 @@ module _ (G : Geometry) (bad : List ℕ) where
 -- After anything that `Ever` allows, an accepted restore of the checkpoint's file: the pages mapped then are mapped again, and marked still
 pub regained-marked : (G : Geometry) (bad : List ℕ) (r₀ : Recorder) → MarkedIn G r₀
     → (buffer : List ℕ) (scratch : List (List ℕ)) (n : ℕ) → run G bad (Encode buffer scratch) r₀ .answer ≡ Moved n
-    → {r : Recorder} → Ever G bad r₀ r → (s : List (List ℕ))
-    → run G bad (Restore (take n (run G bad (Encode buffer scratch) r₀ .left .buffer)) s) r .answer ≡ Moved 0
-    → MarkedIn G (after G bad (Restore (take n (run G bad (Encode buffer scratch) r₀ .left .buffer)) s) r)
-regained-marked G bad r₀ marked buffer scratch n e {r} h s q =
-    subst (λ z. run G bad (Restore z s) r .answer ≡ Moved 0 → MarkedIn G (after G bad (Restore z s) r)) (sym (E .file)) by-file q
+    → {r : Recorder} → Ever G bad r₀ r → (q : Queueing) (s : List (List ℕ))
+    → run G bad (Restore q (take n (run G bad (Encode buffer scratch) r₀ .left .buffer)) s) r .answer ≡ Moved 0
+    → MarkedIn G (after G bad (Restore q (take n (run G bad (Encode buffer scratch) r₀ .left .buffer)) s) r)
+regained-marked G bad r₀ marked buffer scratch n e {r} h q s z =
+    subst (λ z. run G bad (Restore q z s) r .answer ≡ Moved 0 → MarkedIn G (after G bad (Restore q z s) r)) (sym (E .file)) by-file z
   where
     E : Encoded G (lent r₀ buffer scratch) n (run G bad (Encode buffer scratch) r₀ .left .buffer)
     E = encoded G (lent r₀ buffer scratch) n e
@@ -333,23 +335,23 @@ regained-marked G bad r₀ marked buffer scratch n e {r} h s q =
     file : List ℕ
     file = sealed G (tab G r₀)
 
-    B : Back (tab G r₀) (restoredFrom G (sealed G (tab G r₀)))
-    B = comes-back G (E .good) (tab G r₀) (E .counted)
+    B : Back (tab G r₀) (restoredBy G q (sealed G (tab G r₀)))
+    B = requeued-back G q _ _ (comes-back G (E .good) (tab G r₀) (E .counted))
 
-    there : MarkedAll G (state (restoredFrom G (sealed G (tab G r₀))) (r .flash))
+    there : MarkedAll G (state (restoredBy G q (sealed G (tab G r₀))) (r .flash))
     there l m =
-        let w : wordOf (restoredFrom G (sealed G (tab G r₀))) l ≡ wordOf (tab G r₀) l = ap (λ x. getD x l empty) (B .map) in
+        let w : wordOf (restoredBy G q (sealed G (tab G r₀))) l ≡ wordOf (tab G r₀) l = ap (λ x. getD x l empty) (B .map) in
         let k : Mapped (tab G r₀) l = λ z. m (w ∙ z) in
         subst (λ a. at (r .flash .marks) (flat G a) ≢ 0) (sym w)
         (ever G bad r₀ l k (omega (arith, E .counted .page< l k)) (marked l k) h .mark)
 
-    by-file : run G bad (Restore (sealed G (tab G r₀)) s) r .answer ≡ Moved 0 → MarkedIn G (after G bad (Restore (sealed G (tab G r₀)) s) r)
-    by-file q = go (restored-or G (sealed G (tab G r₀)) (lent r [] s))
+    by-file : run G bad (Restore q (sealed G (tab G r₀)) s) r .answer ≡ Moved 0 → MarkedIn G (after G bad (Restore q (sealed G (tab G r₀)) s) r)
+    by-file e = go (restored-or G q (sealed G (tab G r₀)) (lent r [] s))
       where
-        go : Stayed (lent r [] s) (restoring G (sealed G (tab G r₀)) (lent r [] s)) ⊎ Begun G r (restoredFrom G (sealed G (tab G r₀))) (restoring G (sealed G (tab G r₀)) (lent r [] s))
-            → MarkedIn G (after G bad (Restore (sealed G (tab G r₀)) s) r)
+        go : Stayed (lent r [] s) (restoring G q (sealed G (tab G r₀)) (lent r [] s)) ⊎ Begun G r (restoredBy G q (sealed G (tab G r₀))) (restoring G q (sealed G (tab G r₀)) (lent r [] s))
+            → MarkedIn G (after G bad (Restore q (sealed G (tab G r₀)) s) r)
         go (inl y) =
-            absurd (let f : Refused (y .cause) ≡ Moved 0 = sym (ap (λ (o : Outcome). o .answer) (y .is)) ∙ q in let z : _≡_ {A = ℕ} 0 1 = cc in omega arith)
+            absurd (let f : Refused (y .cause) ≡ Moved 0 = sym (ap (λ (o : Outcome). o .answer) (y .is)) ∙ e in let z : _≡_ {A = ℕ} 0 1 = cc in omega arith)
         go (inr y) =
             subst (MarkedIn G) (sym (y .unit)) (subst (λ t. MarkedAll G (state t (r .flash))) (sym (view-packed (y .counted .sized))) there)
 
@@ -359,11 +361,11 @@ pub marked-since : {G : Geometry} {bad : List ℕ} {r : Recorder} → FromOpenin
 marked-since {G} {bad} (opens r e) = opening-marked G bad r e
 marked-since {G} {bad} (calls {r} h c n) = marked-kept G bad c r n (marked-since h)
 marked-since (lends-fuse h f) = marked-since h
-marked-since {G} {bad} (regains {r₀} {r} h buffer scratch n e v s q) = regained-marked G bad r₀ (marked-since h) buffer scratch n e v s q
+marked-since {G} {bad} (regains {r₀} {r} h buffer scratch n e v q s z) = regained-marked G bad r₀ (marked-since h) buffer scratch n e v q s z
 
 -- Demand 3b for such a unit, with no premise on what comes behind the checkpoint but the erases
 pub unit-restores : (G : Geometry) (bad : List ℕ) (r₀ : Recorder) → FromOpening G bad r₀
     → (buffer : List ℕ) (scratch : List (List ℕ)) (n : ℕ) → run G bad (Encode buffer scratch) r₀ .answer ≡ Moved n
     → {r : Recorder} → Ever G bad r₀ r → length (r .words) ≡ tabWords G → length (r .used) ≡ pages G
-    → GivesBack G bad r₀ (take n (run G bad (Encode buffer scratch) r₀ .left .buffer)) r
+    → (q : Queueing) → GivesBack G bad r₀ (take n (run G bad (Encode buffer scratch) r₀ .left .buffer)) q r
 unit-restores G bad r₀ u buffer scratch n e h a b = marked-restores G bad r₀ buffer scratch n e (marked-since u) h a b

@@ -267,7 +267,7 @@ module _ (G : Geometry) (bad : List ℕ) where
       subst (BelowEnds G K bad t m st (collectThreshold G bad t m st .st) (collectThreshold G bad t m st .ops)) e (threshold-ends G K bad t m st S F)))
       refl
   leaves (Encode b s) r k = silent-leaves (Encode b s) r k (guarded-by SilentOut _ _ _ _ (lent r b s) _ tt tt (λ _ _ _ _. tt))
-  leaves (Restore b s) r k =
-      silent-leaves (Restore b s) r k
+  leaves (Restore q b s) r k =
+      silent-leaves (Restore q b s) r k
       (guarded-by SilentOut _ _ _ _ (lent r [] s) _ tt tt
       (λ _ _ _ _. unless-by SilentOut _ (Reason (reasonOf G b)) (lent r [] s) _ tt (λ _. tt)))

@@ -24,6 +24,8 @@ pub mod Steps
 pub mod Served
 -- 02, M-101: the new numbers beside the old
 pub mod Told
+-- 02, M-109: what a restore leaves under either choice
+pub mod Queued
 -- the sort of the queue and the walk over the segments
 pub mod Order
 -- premises that can be met

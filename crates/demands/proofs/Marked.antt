@@ -19,7 +19,8 @@ use Rattle.model.specs.Tables.{at, tabWords, pages}
 use Rattle.model.specs.Device.{Flash, flash, Op, Program, EraseSeg, State, state, Out, out, finish, behind, goOn, blanked, burn, programmed, performAll, formatFrom, clearUp, mayProgram, pageAt}
 use Rattle.model.specs.PageWrite.{content, whole, writePage}
 use Rattle.model.specs.PageGc.{victim, finishOf, lastOf, copyOne, collect, collectMore, collectList, collectThreshold}
-use Rattle.model.specs.Checkpoint.{restoredFrom, sealed}
+use Rattle.model.specs.declared.Queueing.{Queueing}
+use Rattle.model.specs.Checkpoint.{restoredBy, sealed}
 use Rattle.model.specs.Entry.{Recorder, Lent, lent, stateOf, collecting, formatting, write, collection, listCollection, thresholdCollection}
 use Rattle.model.specs.History.{Call, Format, Open, Read, Write, Collect, CollectList, CollectThreshold, Encode, Restore, lit, run, after, opsOf, contentOf, mapIn, Begins, Elsewhere, Spares, Cut, GivesBack}
 use Rattle.model.specs.Contract.{Fit}
@@ -31,6 +32,7 @@ use Rattle.model.proofs.Content.{content-same, program-other, program-fit, segm
 use Rattle.model.proofs.Ops.{Holds, SafeOps, perform-append}
 use Rattle.model.proofs.Restore.{Back}
 use Rattle.model.proofs.Sealed.{comes-back}
+use Rattle.model.proofs.Requeue.{requeued-back}
 use Rattle.model.proofs.Guard.{guarded-by}
 use Rattle.model.proofs.Entry.{stepped, by-kind, Begun, opened-flash, restored-flash, read-unit, encoding-unit, performs}
 use Rattle.model.proofs.Cut.{Encoded, encoded, restores}
@@ -133,7 +135,7 @@ module _ (G : Geometry) (bad : List ℕ) where
   run-clear (CollectList m s) r = collecting-clear (lent r [] s) _ (more-honest m 0 (stateOf G (lent r [] s)) .clear)
   run-clear (CollectThreshold t m s) r = collecting-clear (lent r [] s) _ (threshold-honest t m (stateOf G (lent r [] s)) .clear)
   run-clear (Encode b s) r = quiet _ (r .flash) (encoding-unit G (lent r b s) .1)
-  run-clear (Restore b s) r = quiet _ (r .flash) (restored-flash G bad b s r .1)
+  run-clear (Restore q b s) r = quiet _ (r .flash) (restored-flash G bad q b s r .1)
 
   -- and they are of pages and segments of the device, on flash of the right size
   abbrev Shaped : Flash → List Op → Type 0
@@ -144,7 +146,7 @@ module _ (G : Geometry) (bad : List ℕ) where
 
   run-shaped : (c : Call) (r : Recorder) → Shaped (r .flash) (run G bad c r .ops)
   run-shaped c r =
-      by-kind (λ c. Shaped (r .flash) (run G bad c r .ops)) (inl (opened-flash G bad r .1)) (λ b s. inl (restored-flash G bad b s r .1))
+      by-kind (λ c. Shaped (r .flash) (run G bad c r .ops)) (inl (opened-flash G bad r .1)) (λ q b s. inl (restored-flash G bad q b s r .1))
       (λ c n. go c n (stepped G bad c r n .fits))
       c
     where
@@ -269,19 +271,19 @@ pub marked-restores : (G : Geometry) (bad : List ℕ) (r₀ : Recorder) (buffer 
     → run G bad (Encode buffer scratch) r₀ .answer ≡ Moved n
     → ((l : ℕ) → getD (mapIn G r₀) l empty ≢ empty → at (r₀ .flash .marks) (flat G (getD (mapIn G r₀) l empty)) ≢ 0)
     → {r : Recorder} → Ever G bad r₀ r → length (r .words) ≡ tabWords G → length (r .used) ≡ pages G
-    → GivesBack G bad r₀ (take n (run G bad (Encode buffer scratch) r₀ .left .buffer)) r
-marked-restores G bad r₀ buffer scratch n e marked {r} h a b =
+    → (q : Queueing) → GivesBack G bad r₀ (take n (run G bad (Encode buffer scratch) r₀ .left .buffer)) q r
+marked-restores G bad r₀ buffer scratch n e marked {r} h a b q =
     let E : Encoded G (lent r₀ buffer scratch) n (run G bad (Encode buffer scratch) r₀ .left .buffer) = encoded G (lent r₀ buffer scratch) n e in
     let S : Counted G (tab G r₀) = E .counted in
-    let B : Back (tab G r₀) (restoredFrom G (sealed G (tab G r₀))) = comes-back G (E .good) (tab G r₀) S in
-    let D : Begun G r (restoredFrom G (sealed G (tab G r₀))) (run G bad (Restore (sealed G (tab G r₀)) (zeros (pages G) ∷ [])) r) =
-    restores G bad r₀ (E .good) S r a b in
-    subst (λ z. GivesBack G bad r₀ z r) (sym (E .file))
+    let B : Back (tab G r₀) (restoredBy G q (sealed G (tab G r₀))) = requeued-back G q _ _ (comes-back G (E .good) (tab G r₀) S) in
+    let D : Begun G r (restoredBy G q (sealed G (tab G r₀))) (run G bad (Restore q (sealed G (tab G r₀)) (zeros (pages G) ∷ [])) r) =
+    restores G bad r₀ (E .good) S q r a b in
+    subst (λ z. GivesBack G bad r₀ z q r) (sym (E .file))
     (record {
       answer = D .answer;
       contents = λ l.
-          ap (λ q. contentOf G q l) (D .unit)
+          ap (λ z. contentOf G z l) (D .unit)
           ∙ ap (λ t. content G (state t (r .flash)) l) (view-packed (D .counted .sized))
-          ∙ content-same G (state (tab G r₀) (r₀ .flash)) (state (restoredFrom G (sealed G (tab G r₀))) (r .flash)) l (ap (λ x. getD x l empty) (B .map))
+          ∙ content-same G (state (tab G r₀) (r₀ .flash)) (state (restoredBy G q (sealed G (tab G r₀))) (r .flash)) l (ap (λ x. getD x l empty) (B .map))
           (λ m. ever G bad r₀ l m (omega (arith, S .page< l m)) (marked l m) h .bytes);
     })

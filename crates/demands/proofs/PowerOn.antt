@@ -6,6 +6,7 @@ use mathlib.Core.Logic.{inr}
 use mathlib.Core.List.{List, []}
 use Rattle.model.specs.declared.Geometry.{Geometry}
 use Rattle.model.specs.Entry.{Recorder, lent}
+use Rattle.model.specs.declared.Queueing.{Queueing}
 use Rattle.model.specs.History.{Call, Format, Open, Read, Write, Collect, CollectList, CollectThreshold, Encode, Restore, run, after, mapIn, Spares, IsRefused}
 use Rattle.model.specs.History.{Keeps, lost, Since, called}
 use Rattle.model.proofs.Entry.{read-unit, encoding-unit, restored-flash}
@@ -24,10 +25,10 @@ module _ {G : Geometry} {bad : List ℕ} {r₀ : Recorder} {file : List ℕ} {r 
   Is-open (CollectList m s) = ⊥
   Is-open (CollectThreshold t m s) = ⊥
   Is-open (Encode b s) = ⊥
-  Is-open (Restore b s) = ⊥
+  Is-open (Restore q b s) = ⊥
 
   abbrev Is-restore : Call → Type 0
-  Is-restore (Restore b s) = Unit {0}
+  Is-restore (Restore q b s) = Unit {0}
   Is-restore Open = ⊥
   Is-restore Format = ⊥
   Is-restore (Read sector len o s) = ⊥
@@ -40,14 +41,14 @@ module _ {G : Geometry} {bad : List ℕ} {r₀ : Recorder} {file : List ℕ} {r 
   pub powered-read : (sector len : ℕ) (o : List ℕ) (s : List (List ℕ)) → Since G bad r₀ file lost (after G bad (Read sector len o s) r)
   powered-read sector len o s =
       powered (Read sector len o s) (read-unit G sector len (lent r o s) .1)
-      (record { no-opening = λ e. absurd (subst Is-open (sym e) tt); no-other = λ b t e. absurd (subst Is-restore (sym e) tt) })
+      (record { no-opening = λ e. absurd (subst Is-open (sym e) tt); no-other = λ q b t e. absurd (subst Is-restore (sym e) tt) })
 
   pub powered-encode : (b : List ℕ) (s : List (List ℕ)) → Since G bad r₀ file lost (after G bad (Encode b s) r)
   powered-encode b s =
       powered (Encode b s) (encoding-unit G (lent r b s) .1)
-      (record { no-opening = λ e. absurd (subst Is-open (sym e) tt); no-other = λ c t e. absurd (subst Is-restore (sym e) tt) })
+      (record { no-opening = λ e. absurd (subst Is-open (sym e) tt); no-other = λ q c t e. absurd (subst Is-restore (sym e) tt) })
 
-  pub powered-restore : (b : List ℕ) (s : List (List ℕ)) → IsRefused (run G bad (Restore b s) r .answer) → Since G bad r₀ file lost (after G bad (Restore b s) r)
-  powered-restore b s n =
-      powered (Restore b s) (restored-flash G bad b s r .1)
-      (record { no-opening = λ e. absurd (subst Is-open (sym e) tt); no-other = λ c t e. inr n })
+  pub powered-restore : (q : Queueing) (b : List ℕ) (s : List (List ℕ)) → IsRefused (run G bad (Restore q b s) r .answer) → Since G bad r₀ file lost (after G bad (Restore q b s) r)
+  powered-restore q b s n =
+      powered (Restore q b s) (restored-flash G bad q b s r .1)
+      (record { no-opening = λ e. absurd (subst Is-open (sym e) tt); no-other = λ _ c t e. inr n })

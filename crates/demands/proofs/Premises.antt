@@ -20,6 +20,8 @@ use Rattle.model.specs.PageWrite.{oldPage, writeAt, writePage}
 use Rattle.model.specs.PageGc.{sorted, finishOf, drain, collectOf, collect, collectMore, collectList, collectThreshold}
 use Rattle.model.specs.Checkpoint.{fresh, usedBy, word, long, words, wordAt, longAt, wordsAt, head, file, reasonOf, welcome, settleAll, restored}
 use Rattle.model.specs.Entry.{Recorder, recorder, unless, guarded, clean, formatting, opening, read, write, collection, listCollection, thresholdCollection, encoding, restoring}
+use Rattle.model.specs.declared.Queueing.{Queueing}
+use Rattle.model.specs.declared.Queueing.the-variants.{Empty}
 use Rattle.model.specs.History.{Call, Format, Open, Read, Write, Collect, CollectList, CollectThreshold, Encode, Restore, run, after, lit}
 use Rattle.model.specs.History.{lost, Since, GivesBack, InService}
 use Rattle.model.specs.History as history
@@ -73,7 +75,7 @@ abbrev dark : Recorder
 dark = recorder (zeros 19) (zeros 4) torn
 
 abbrev again : Recorder
-again = after A bad (Restore kept (zeros 4 ∷ [])) dark
+again = after A bad (Restore Empty kept (zeros 4 ∷ [])) dark
 
 -- every refusal that leaves something: a write with no fuse; a collection with no fuse, and with fuse 1, whose copy is done and whose erase is refused;
 -- one without room; the same from the list and by a threshold. And one of each that leaves nothing changed
@@ -87,7 +89,7 @@ pub record Rows : Type 0 where
   wrong : Leaves A bad (put 12 5) unit Wrong (run A bad (put 12 5) unit)
   none : Leaves A bad (put 0 5) full NoRoom (run A bad (put 0 5) full)
   unmapped : Leaves A bad (Read 8 4 (zeros 4) (zeros 4 ∷ [])) unit Unmapped (run A bad (Read 8 4 (zeros 4) (zeros 4 ∷ [])) unit)
-  reason : Leaves A bad (Restore [] (zeros 4 ∷ [])) unit (Reason 1) (run A bad (Restore [] (zeros 4 ∷ [])) unit)
+  reason : Leaves A bad (Restore Empty [] (zeros 4 ∷ [])) unit (Reason 1) (run A bad (Restore Empty [] (zeros 4 ∷ [])) unit)
   reason-in : (1 ≤ 1) × (1 ≤ 9)
 
 rows : Rows
@@ -106,8 +108,8 @@ rows =
       wrong = leaves A bad (put 12 5) unit Wrong refl;
       none = leaves A bad (put 0 5) full NoRoom refl;
       unmapped = leaves A bad (Read 8 4 (zeros 4) (zeros 4 ∷ [])) unit Unmapped refl;
-      reason = leaves A bad (Restore [] (zeros 4 ∷ [])) unit (Reason 1) refl;
-      reason-in = reasons A bad (Restore [] (zeros 4 ∷ [])) unit 1 refl;
+      reason = leaves A bad (Restore Empty [] (zeros 4 ∷ [])) unit (Reason 1) refl;
+      reason-in = reasons A bad (Restore Empty [] (zeros 4 ∷ [])) unit 1 refl;
     }
 
 -- formatted, opened, worked, its power cut, regained by its own checkpoint; and a checkpoint of that unit gives everything back
@@ -116,7 +118,7 @@ pub record Regained : Type 0 where
   opened : FromOpening A bad unit
   ever : Ever A bad unit dark
   regained : FromOpening A bad again
-  back : GivesBack A bad again (take 64 (run A bad saving again .left .buffer)) again
+  back : (q : Queueing) → GivesBack A bad again (take 64 (run A bad saving again .left .buffer)) q again
 
 regained : Regained
 unfolding
@@ -127,7 +129,7 @@ unfolding
 regained =
     let o : FromOpening A bad unit = calls (calls (calls (opens (after A bad Format any) refl) (put 0 1) tt) (put 4 2) tt) (put 0 3) tt in
     let v : Ever A bad unit dark = cut start (put 8 4) 0 torn tt (replicate 4 9, 7, refl, omega arith, refl) (zeros 19) (zeros 4) in
-    let a : FromOpening A bad again = regains o (zeros 64) (zeros 4 ∷ []) 64 refl v (zeros 4 ∷ []) refl in
+    let a : FromOpening A bad again = regains o (zeros 64) (zeros 4 ∷ []) 64 refl v Empty (zeros 4 ∷ []) refl in
     record {
       begun = started A (good-test A refl) bad (replicate 16 7) (replicate 4 9) (replicate 2 8) endless refl refl refl (omega arith);
       opened = o;
@@ -157,7 +159,7 @@ seen =
 pub record Dark : Type 0 where
   reads : Since witness.A3 witness.bad witness.r₀ witness.kept lost (after witness.A3 witness.bad (Read 0 4 (zeros 4) (zeros 5 ∷ [])) witness.dark)
   encodes : Since witness.A3 witness.bad witness.r₀ witness.kept lost (after witness.A3 witness.bad (Encode (zeros 68) (zeros 5 ∷ [])) witness.dark)
-  restores : Since witness.A3 witness.bad witness.r₀ witness.kept lost (after witness.A3 witness.bad (Restore [] (zeros 6 ∷ [])) witness.dark)
+  restores : Since witness.A3 witness.bad witness.r₀ witness.kept lost (after witness.A3 witness.bad (Restore Empty [] (zeros 6 ∷ [])) witness.dark)
 
 dark-calls : Dark
 unfolding every good? blank reasonOf unless guarded clean restoring
@@ -166,13 +168,13 @@ dark-calls =
     record {
       reads = powered-read h 0 4 (zeros 4) (zeros 5 ∷ []);
       encodes = powered-encode h (zeros 68) (zeros 5 ∷ []);
-      restores = powered-restore h [] (zeros 6 ∷ []) tt;
+      restores = powered-restore h Empty [] (zeros 6 ∷ []) tt;
     }
 
 -- in service: pages written, a collection, a restore that is refused, a formatting cut short; then a segment goes bad. Where no fuse is left a write
 -- is refused, and a collection is told 121
 abbrev late : Recorder
-late = lit endless (after A bad Format (lit 1 (after A bad (Restore [] (zeros 4 ∷ [])) (after A bad (Collect gc) unit))))
+late = lit endless (after A bad Format (lit 1 (after A bad (Restore Empty [] (zeros 4 ∷ [])) (after A bad (Collect gc) unit))))
 
 pub record Serving : Type 0 where
   serving : InService A late
@@ -191,8 +193,8 @@ served =
     serves A (good-test A refl) bad (replicate 16 7) (replicate 4 9) (replicate 2 8) endless refl refl refl (omega arith) in
     let u : InService A unit =
     history.called (history.called (history.called i bad (put 0 1) (λ z. absurd z)) bad (put 4 2) (λ z. absurd z)) bad (put 0 3) (λ z. absurd z) in
-    let r : InService A (after A bad (Restore [] (zeros 4 ∷ [])) (after A bad (Collect gc) unit)) =
-    history.called (history.called u bad (Collect gc) (λ z. absurd z)) bad (Restore [] (zeros 4 ∷ [])) (λ _. tt) in
+    let r : InService A (after A bad (Restore Empty [] (zeros 4 ∷ [])) (after A bad (Collect gc) unit)) =
+    history.called (history.called u bad (Collect gc) (λ z. absurd z)) bad (Restore Empty [] (zeros 4 ∷ [])) (λ _. tt) in
     let l : InService A late = history.lent-fuse (history.called (history.lent-fuse r 1) bad Format (λ z. absurd z)) endless in
     record {
       serving = l;

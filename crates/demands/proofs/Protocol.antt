@@ -13,6 +13,7 @@ use Rattle.model.specs.Tables.{Tables, tabWords, pages}
 use Rattle.model.specs.Device.{Flash, flash}
 use Rattle.model.specs.Checkpoint.{words}
 use Rattle.model.specs.Entry.{Recorder, recorder, lent}
+use Rattle.model.specs.declared.Queueing.{Queueing}
 use Rattle.model.specs.History.{Call, Format, Open, Read, Write, Collect, CollectList, CollectThreshold, Encode, Restore, lit, run, after, opsOf, mapIn}
 use Rattle.model.specs.History.{Spares, Cut, Keeps, running, lost, Since, checkpoint, lent-fuse, called, off, cut, regained, GivesBack}
 use Rattle.model.proofs.Cut.{encoded, cut-restores}
@@ -31,11 +32,11 @@ module _ (G : Geometry) (bad : List ℕ) where
   next-spares M Open r n = absurd n
   next-spares M (CollectList m s) r n = absurd n
   next-spares M (CollectThreshold k m s) r n = absurd n
-  next-spares M (Restore b s) r n = absurd n
+  next-spares M (Restore q b s) r n = absurd n
 
   next-keeps : (M file : List ℕ) (t : Tables) (c : Call) (a : Answer) → Allows G M t c → Keeps file c a
   next-keeps M file t c a n =
-      record { no-opening = λ e. absurd (subst (Allows G M t) e n); no-other = λ b s e. absurd (subst (Allows G M t) e n) }
+      record { no-opening = λ e. absurd (subst (Allows G M t) e n); no-other = λ q b s e. absurd (subst (Allows G M t) e n) }
 
   -- straight behind a checkpoint, a collection whose victim was drained before the encoding is allowed
   pub drained-next : (r₀ : Recorder) (file : List ℕ) → Saved G bad r₀ file → Drained G r₀ → (s : List (List ℕ)) → Next G r₀ r₀ (Collect s)
@@ -43,10 +44,10 @@ module _ (G : Geometry) (bad : List ℕ) where
 
   -- `cut-restores` for a saved file
   saved-restores : (r₀ : Recorder) (file : List ℕ) → Saved G bad r₀ file → {r : Recorder} → Since G bad r₀ file lost r
-      → length (r .words) ≡ tabWords G → length (r .used) ≡ pages G → GivesBack G bad r₀ file r
-  saved-restores r₀ file E {r} h a b =
-      subst (λ z. GivesBack G bad r₀ z r) (E .is)
-      (cut-restores G bad r₀ (E .buffer) (E .scratch) (E .size) (E .accepted) (subst (λ z. Since G bad r₀ z lost r) (sym (E .is)) h) a b)
+      → length (r .words) ≡ tabWords G → length (r .used) ≡ pages G → (q : Queueing) → GivesBack G bad r₀ file q r
+  saved-restores r₀ file E {r} h a b q =
+      subst (λ z. GivesBack G bad r₀ z q r) (E .is)
+      (cut-restores G bad r₀ (E .buffer) (E .scratch) (E .size) (E .accepted) (subst (λ z. Since G bad r₀ z lost r) (sym (E .is)) h) a b q)
 
   module _ (r₀ : Recorder) (file : List ℕ) where
     -- a cut at an allowed call is one that the checkpoint bears
@@ -61,27 +62,27 @@ module _ (G : Geometry) (bad : List ℕ) where
     careful-since (lends-fuse h f) = lent-fuse (careful-since h) f
     careful-since (calls {r} h c n) =
         called (careful-since h) c tt (next-keeps (mapIn G r₀) file (tab G r) c _ n) (next-spares (mapIn G r₀) c r n)
-    careful-since (regains h c n i f k w u s e) = regained (next-cut (careful-since h) c n i f k w u) s e
+    careful-since (regains h c n i f k w u q s e) = regained (next-cut (careful-since h) c n i f k w u) q s e
 
     -- Cut the power at any device operation of the next call, or behind the last one, where everything but the flash is lost: the stored checkpoint
     -- gives everything back. (A read does no operation: cutting it is cutting between two calls.)
     pub protocol-restores : Saved G bad r₀ file → {r : Recorder} → Careful G bad r₀ file r → (c : Call) → Next G r₀ r c
         → (i : ℕ) (f : Flash) → Cut G i (opsOf G bad c r) (r .flash) f
         → (w u : List ℕ) → length w ≡ tabWords G → length u ≡ pages G
-        → GivesBack G bad r₀ file (recorder w u f)
+        → (q : Queueing) → GivesBack G bad r₀ file q (recorder w u f)
     protocol-restores E h c n i f k w u a b = saved-restores r₀ file E (next-cut (careful-since h) c n i f k w u) a b
 
     -- and the unit goes on from there
     pub regained-careful : Saved G bad r₀ file → {r : Recorder} → Careful G bad r₀ file r → (c : Call) → Next G r₀ r c
         → (i : ℕ) (f : Flash) → Cut G i (opsOf G bad c r) (r .flash) f
         → (w u : List ℕ) → length w ≡ tabWords G → length u ≡ pages G
-        → Careful G bad r₀ file (after G bad (Restore file (zeros (pages G) ∷ [])) (recorder w u f))
-    regained-careful E h c n i f k w u a b =
-        regains h c n i f k w u (zeros (pages G) ∷ []) (protocol-restores E h c n i f k w u a b .answer)
+        → (q : Queueing) → Careful G bad r₀ file (after G bad (Restore q file (zeros (pages G) ∷ [])) (recorder w u f))
+    regained-careful E h c n i f k w u a b q =
+        regains h c n i f k w u q (zeros (pages G) ∷ []) (protocol-restores E h c n i f k w u a b q .answer)
 
     -- While a new checkpoint is being stored, either of the two: the old one gives what it held, the new one what the unit holds now.
     pub either-restores : Saved G bad r₀ file → {r : Recorder} → Careful G bad r₀ file r → (file′ : List ℕ) → Saved G bad r file′
         → (w u : List ℕ) → length w ≡ tabWords G → length u ≡ pages G
-        → GivesBack G bad r₀ file (recorder w u (r .flash)) × GivesBack G bad r file′ (recorder w u (r .flash))
-    either-restores E {r} h file′ E′ w u a b =
-        (saved-restores r₀ file E (off (careful-since h) w u) a b, saved-restores r file′ E′ (off checkpoint w u) a b)
+        → (q : Queueing) → GivesBack G bad r₀ file q (recorder w u (r .flash)) × GivesBack G bad r file′ q (recorder w u (r .flash))
+    either-restores E {r} h file′ E′ w u a b q =
+        (saved-restores r₀ file E (off (careful-since h) w u) a b q, saved-restores r file′ E′ (off checkpoint w u) a b q)

@@ -137,7 +137,7 @@ by-collection P one list below Open n = absurd n
 by-collection P one list below (Read sector len o s) n = absurd n
 by-collection P one list below (Write sector len d s) n = absurd n
 by-collection P one list below (Encode b s) n = absurd n
-by-collection P one list below (Restore b s) n = absurd n
+by-collection P one list below (Restore q b s) n = absurd n
 
 module _ (G : Geometry) (bad : List ℕ) where
   pub collected-content : (r : Recorder) (l : ℕ) (c : Call) → Collects c → contentOf G (after G bad c r) l ≡ contentOf G r l

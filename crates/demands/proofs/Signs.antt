@@ -106,7 +106,7 @@ module _ (G : Geometry) (bad : List ℕ) where
   fair (CollectList m s) r = collecting-fair (lent r [] s) _ (more-pass G bad m 0 (stateOf G (lent r [] s)))
   fair (CollectThreshold t m s) r = collecting-fair (lent r [] s) _ (threshold-pass G bad t m (stateOf G (lent r [] s)))
   fair (Encode b s) r = guarded-by FairOut _ _ _ _ (lent r b s) _ tt tt (λ _ _ _ _. tt)
-  fair (Restore b s) r = guarded-by FairOut _ _ _ _ (lent r [] s) _ tt tt (λ _ _ _ _. restored-fair b _ refl (lent r [] s) _ tt)
+  fair (Restore q b s) r = guarded-by FairOut _ _ _ _ (lent r [] s) _ tt tt (λ _ _ _ _. restored-fair b _ refl (lent r [] s) _ tt)
 
   pub signs : (N : Numbers) (c : Call) (r : Recorder) → IsCount (run G bad c r .answer) ⊎ IsRefusal N (run G bad c r .answer)
   signs N c r = go N (run G bad c r .answer) (fair c r)

@@ -63,7 +63,7 @@ module _ (G : Geometry) (bad : List ℕ) where
     gentle-by (Collect s) n r = absurd n
     gentle-by (CollectList m s) n r = absurd n
     gentle-by (CollectThreshold t m s) n r = absurd n
-    gentle-by (Restore b s) n r = absurd n
+    gentle-by (Restore q b s) n r = absurd n
 
   -- reads, writes and encodings erase nothing, and do one operation at most
   pub erases-none : (M : List ℕ) (c : Call) (r : Recorder) → Gentle c → Spares G M (run G bad c r .ops)

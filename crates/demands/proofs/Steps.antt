@@ -15,13 +15,16 @@ use Rattle.model.specs.Device.{Flash, flash, EraseSeg, burn, mayProgram, mayEra
 use Rattle.model.specs.PageMap.{clearFrom, findFrom, find, invalidate, forget}
 use Rattle.model.specs.PageWrite.{Content, nothing, holds, content, oldPage, writeAt, writePage}
 use Rattle.model.specs.PageGc.{sorted, victim, finishOf, lastOf, drain, collectOf, collect}
-use Rattle.model.specs.Checkpoint.{usedBy, sealed, restoredFrom, word, long, words, wordAt, longAt, wordsAt, head, file as fileWith, reasonOf, welcome, settleAll, restored}
+use Rattle.model.specs.Checkpoint.{usedBy, sealed, restoredBy, word, long, words, wordAt, longAt, wordsAt, head, file as fileWith, reasonOf, welcome, settleAll, restored}
 use Rattle.model.specs.Entry.{Recorder, recorder, lent, unless, guarded, clean, opening, write, collection, encoding, restoring}
+use Rattle.model.specs.declared.Queueing.{Queueing}
+use Rattle.model.specs.declared.Queueing.the-variants.{Empty}
 use Rattle.model.specs.History.{Call, Open, Write, Collect, Encode, Restore, run, after, opsOf, contentOf}
 use Rattle.model.specs.History.{Cut, GivesBack}
 use Rattle.model.proofs.View.{view-packed}
 use Rattle.model.proofs.Taken.{victim-full}
 use Rattle.model.proofs.Sealed.{comes-back}
+use Rattle.model.proofs.Requeue.{requeued-back}
 use Rattle.model.proofs.Entry.{Begun}
 use Rattle.model.proofs.Cut.{Encoded, encoded, restores}
 use Rattle.demands.specs.Given.{tab}
@@ -42,25 +45,25 @@ module _ (G : Geometry) (bad : List ℕ) where
       → (file : List ℕ) → Saved G bad r₁ file
       → (s : List (List ℕ)) (i : ℕ) (f : Flash) → Cut G i (opsOf G bad (Collect s) r₁) (r₁ .flash) f
       → (w u : List ℕ) → length w ≡ tabWords G → length u ≡ pages G
-      → GivesBack G bad r file (recorder w u f)
-  steps-restore {k} {r} {r₁} some h e file E s i f c w u a b =
-      let B : GivesBack G bad r₁ file (recorder w u f) =
-      protocol-restores G bad r₁ file E saved (Collect s) (drained-next G bad r₁ file E (drains-all G bad some h e) s) i f c w u a b in
+      → (q : Queueing) → GivesBack G bad r file q (recorder w u f)
+  steps-restore {k} {r} {r₁} some h e file E s i f c w u a b q =
+      let B : GivesBack G bad r₁ file q (recorder w u f) =
+      protocol-restores G bad r₁ file E saved (Collect s) (drained-next G bad r₁ file E (drains-all G bad some h e) s) i f c w u a b q in
       record { answer = B .answer; contents = λ j. B .contents j ∙ drains G bad some h .contents j }
 
   -- "a segment whose erase was cut is full in the restored tables"
   pub cut-full : (r₀ : Recorder) (file : List ℕ) → Saved G bad r₀ file → 0 < tab G r₀ .queued
       → (r : Recorder) → length (r .words) ≡ tabWords G → length (r .used) ≡ pages G
-      → at (tab G (after G bad (Restore file (zeros (pages G) ∷ [])) r) .free) (victim (tab G r₀)) ≡ 0
-  cut-full r₀ file E some r a b =
+      → (q : Queueing) → at (tab G (after G bad (Restore q file (zeros (pages G) ∷ [])) r) .free) (victim (tab G r₀)) ≡ 0
+  cut-full r₀ file E some r a b q =
       let C : Encoded G (lent r₀ (E .buffer) (E .scratch)) (E .size) (run G bad (Encode (E .buffer) (E .scratch)) r₀ .left .buffer) =
       encoded G (lent r₀ (E .buffer) (E .scratch)) (E .size) (E .accepted) in
-      let D : Begun G r (restoredFrom G (sealed G (tab G r₀))) (run G bad (Restore (sealed G (tab G r₀)) (zeros (pages G) ∷ [])) r) =
-      restores G bad r₀ (C .good) (C .counted) r a b in
-      subst (λ z. at (tab G (after G bad (Restore z (zeros (pages G) ∷ [])) r) .free) (victim (tab G r₀)) ≡ 0) (sym (C .file) ∙ E .is)
-      (ap (λ (q : Recorder). at (tab G q .free) (victim (tab G r₀))) (D .unit)
+      let D : Begun G r (restoredBy G q (sealed G (tab G r₀))) (run G bad (Restore q (sealed G (tab G r₀)) (zeros (pages G) ∷ [])) r) =
+      restores G bad r₀ (C .good) (C .counted) q r a b in
+      subst (λ z. at (tab G (after G bad (Restore q z (zeros (pages G) ∷ [])) r) .free) (victim (tab G r₀)) ≡ 0) (sym (C .file) ∙ E .is)
+      (ap (λ (z : Recorder). at (tab G z .free) (victim (tab G r₀))) (D .unit)
       ∙ ap (λ (t : Tables). at (t .free) (victim (tab G r₀))) (view-packed (D .counted .sized))
-      ∙ ap (λ xs. at xs (victim (tab G r₀))) (comes-back G (C .good) (tab G r₀) (C .counted) .free)
+      ∙ ap (λ xs. at xs (victim (tab G r₀))) (requeued-back G q _ _ (comes-back G (C .good) (tab G r₀) (C .counted)) .free)
       ∙ victim-full G (tab G r₀) (C .counted) some)
 
 -- ---- carried out to the end, by computation
@@ -154,16 +157,16 @@ draining =
 before : Careful A bad r₀ (fileOf r₀) r₂
 before = drains-careful A bad (calls (calls (calls saved (put 0 1) tt) (put 4 2) tt) (put 0 3) tt) draining
 
-either : GivesBack A bad r₀ (fileOf r₀) (dark (r₂ .flash)) × GivesBack A bad r₂ (fileOf r₂) (dark (r₂ .flash))
+either : (q : Queueing) → GivesBack A bad r₀ (fileOf r₀) q (dark (r₂ .flash)) × GivesBack A bad r₂ (fileOf r₂) q (dark (r₂ .flash))
 either = either-restores A bad r₀ (fileOf r₀) file₀ before (fileOf r₂) file₂ (zeros 19) (zeros 4) refl refl
 
 -- step 4, cut in its erase: the unit gives back what it held before step 1, and can go on
-given-back : GivesBack A bad r₁ (fileOf r₂) (dark torn)
+given-back : (q : Queueing) → GivesBack A bad r₁ (fileOf r₂) q (dark torn)
 given-back =
     steps-restore A bad (computed .waits) draining (computed .one) (fileOf r₂) file₂ (zeros 4 ∷ zeros 4 ∷ zeros 2 ∷ []) 0 torn (computed .cut-erase)
     (zeros 19) (zeros 4) refl refl
 
-again : Careful A bad r₂ (fileOf r₂) (after A bad (Restore (fileOf r₂) (zeros 4 ∷ [])) (dark torn))
+again : (q : Queueing) → Careful A bad r₂ (fileOf r₂) (after A bad (Restore q (fileOf r₂) (zeros 4 ∷ [])) (dark torn))
 again =
     regained-careful A bad r₂ (fileOf r₂) file₂ saved gc
     (drained-next A bad r₂ (fileOf r₂) file₂ (drains-all A bad (computed .waits) draining (computed .one)) (zeros 4 ∷ zeros 4 ∷ zeros 2 ∷ []))
@@ -174,7 +177,7 @@ abbrev firstByte : Content → ℕ
 firstByte nothing = 0
 firstByte (holds xs) = at xs 0
 
-careless : GivesBack A bad r₁ (fileOf r₁) (dark (after A bad gc r₁ .flash)) → ⊥
+careless : GivesBack A bad r₁ (fileOf r₁) Empty (dark (after A bad gc r₁ .flash)) → ⊥
 unfolding
     without pushFront insertBy sortBy splice total occ all every blank upTo good? view packed names soundb burn mayProgram mayErase clearFrom
     findFrom find invalidate forget content oldPage writeAt writePage sorted finishOf drain collectOf collect usedBy word long words wordAt longAt

@@ -17,7 +17,7 @@ use Rattle.model.specs.Sound.{Sound, soundb}
 use Rattle.model.specs.Device.{Flash, Out, formatFrom}
 use Rattle.model.specs.PageWrite.{whole, writePage}
 use Rattle.model.specs.PageGc.{collect, collectList, collectThreshold}
-use Rattle.model.specs.Checkpoint.{opened, sealed, fileSize, reasonOf, restoredFrom}
+use Rattle.model.specs.Checkpoint.{opened, sealed, fileSize, reasonOf, restoredBy}
 use Rattle.model.specs.Entry.{Recorder, recorder, Lent, lent, Outcome, outcome, unless, guarded, clean, back, tablesFit, flashFits, pageScratch, seenScratch, allFits}
 use Rattle.model.specs.Entry.{formatting, opening, read, write, collection, listCollection, thresholdCollection, encoding, restoring}
 use Rattle.model.specs.History.{Call, Format, Open, Read, Write, Collect, CollectList, CollectThreshold, Encode, Restore, run}
@@ -90,7 +90,7 @@ module _ (G : Geometry) where
     sizes (CollectList m s) r = allFits G bad (pageScratch G ∷ seenScratch G ∷ G.n ∷ []) (lent r [] s)
     sizes (CollectThreshold t m s) r = allFits G bad (pageScratch G ∷ seenScratch G ∷ G.n ∷ []) (lent r [] s)
     sizes (Encode b s) r = every (good? G ∷ tablesFit G (lent r b s) ∷ leb (fileSize G) (length b) ∷ clean (seenScratch G ∷ []) s ∷ [])
-    sizes (Restore b s) r = every (good? G ∷ tablesFit G (lent r [] s) ∷ clean (pages G ∷ []) s ∷ [])
+    sizes (Restore q b s) r = every (good? G ∷ tablesFit G (lent r [] s) ∷ clean (pages G ∷ []) s ∷ [])
 
     all-exactly : (ks : List ℕ) (x : Lent) → Exactly (allFits G bad ks x ≡ true) (AllFits G bad ks (x .scratch) (x .unit))
     unfolding every
@@ -158,7 +158,7 @@ module _ (G : Geometry) where
               (good-test G (t 0), fit-tables x (t 1), leb-true _ _ (t 2), clean-is _ s (t 3));
           whenever = λ h. rw (test-good G (h .0), test-tables G x (h .1 .words) (h .1 .used), le-leb _ _ (h .2), is-clean (seenScratch G ∷ []) s (h .3));
         }
-    sizes-exactly (Restore b s) r =
+    sizes-exactly (Restore q b s) r =
         let x : Lent = lent r [] s in
         record {
           only = λ a.
@@ -172,7 +172,7 @@ module _ (G : Geometry) where
   abbrev pub soundTest : Call → Recorder → Bool
   soundTest Format r = true
   soundTest Open r = true
-  soundTest (Restore b s) r = true
+  soundTest (Restore q b s) r = true
   soundTest (Read sector len o s) r = soundb G (tab G r)
   soundTest (Write sector len d s) r = soundb G (tab G r)
   soundTest (Collect s) r = soundb G (tab G r)
@@ -189,7 +189,7 @@ module _ (G : Geometry) where
   pageTest (CollectList m s) = true
   pageTest (CollectThreshold t m s) = true
   pageTest (Encode b s) = true
-  pageTest (Restore b s) = true
+  pageTest (Restore q b s) = true
 
   abbrev pub overrunTest : Call → Bool
   overrunTest (Read sector len o s) = leb (offset G sector + len) G.s
@@ -200,7 +200,7 @@ module _ (G : Geometry) where
   overrunTest (CollectList m s) = true
   overrunTest (CollectThreshold t m s) = true
   overrunTest (Encode b s) = true
-  overrunTest (Restore b s) = true
+  overrunTest (Restore q b s) = true
 
   soundb-exactly : (r : Recorder) → TablesFit G r → Exactly (soundb G (tab G r) ≡ true) (Sound G (tab G r))
   soundb-exactly r h =
@@ -226,7 +226,7 @@ module _ (G : Geometry) where
   pub sound-exactly : (bad : List ℕ) (c : Call) (r : Recorder) → SizesRight G bad c r → Exactly (soundTest c r ≡ true) (TablesSound G c r)
   sound-exactly bad Format r h = always
   sound-exactly bad Open r h = always
-  sound-exactly bad (Restore b s) r h = always
+  sound-exactly bad (Restore q b s) r h = always
   sound-exactly bad (Read sector len o s) r h = soundb-exactly r (h .1)
   sound-exactly bad (Write sector len d s) r h = soundb-exactly r (h .0 .tables)
   sound-exactly bad (Collect s) r h = soundb-exactly r (h .tables)
@@ -254,7 +254,7 @@ module _ (G : Geometry) where
   within-exactly (CollectList m s) = anywhere
   within-exactly (CollectThreshold t m s) = anywhere
   within-exactly (Encode b s) = anywhere
-  within-exactly (Restore b s) = anywhere
+  within-exactly (Restore q b s) = anywhere
 
   -- ---- the deed: what a call does where its tests pass
 
@@ -278,8 +278,8 @@ module _ (G : Geometry) where
     deed (CollectList m s) r = putBack (lent r [] s) (collectList G bad m (stateIn G r))
     deed (CollectThreshold t m s) r = putBack (lent r [] s) (collectThreshold G bad t m (stateIn G r))
     deed (Encode b s) r = outcome (lent r (splice 0 (sealed G (tab G r)) b) s) (Moved (fileSize G)) []
-    deed (Restore b s) r =
-        let t = restoredFrom G b in
+    deed (Restore q b s) r =
+        let t = restoredBy G q b in
         unless (eqb (reasonOf G b) 0) (Reason (reasonOf G b)) (lent r [] s)
         (outcome (lent (recorder (packed t) (t .used) (r .flash)) [] s) (Moved 0) [])
 
@@ -294,4 +294,4 @@ module _ (G : Geometry) where
     run-is (CollectList m s) r = refl
     run-is (CollectThreshold t m s) r = refl
     run-is (Encode b s) r = refl
-    run-is (Restore b s) r = refl
+    run-is (Restore q b s) r = refl

@@ -76,7 +76,7 @@ Untold Format = Unit {0}
 Untold Open = Unit {0}
 Untold (Read sector len o s) = Unit {0}
 Untold (Encode b s) = Unit {0}
-Untold (Restore b s) = Unit {0}
+Untold (Restore q b s) = Unit {0}
 Untold (Write sector len d s) = ⊥
 Untold (Collect s) = ⊥
 Untold (CollectList m s) = ⊥
@@ -153,7 +153,7 @@ module _ (G : Geometry) (bad : List ℕ) where
   same (Read sector len o s) u r =
       guarded-by SameOut _ _ _ _ (lent r o s) _ refl refl (λ _ _ _ _. unless-by SameOut _ Unmapped (lent r o s) _ refl (λ _. refl))
   same (Encode b s) u r = guarded-by SameOut _ _ _ _ (lent r b s) _ refl refl (λ _ _ _ _. refl)
-  same (Restore b s) u r =
+  same (Restore q b s) u r =
       guarded-by SameOut _ _ _ _ (lent r [] s) _ refl refl (λ _ _ _ _. unless-by SameOut _ (Reason (reasonOf G b)) (lent r [] s) _ refl (λ _. refl))
   same (Write sector len d s) u r = absurd u
   same (Collect s) u r = absurd u

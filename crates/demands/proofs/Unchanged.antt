@@ -134,7 +134,7 @@ module _ (G : Geometry) (bad : List ℕ) where
     stays (CollectThreshold t m s) r = collecting-stays (lent r [] s) _ (threshold-pass t m (stateOf G (lent r [] s)))
     stays (Encode b s) r =
         guarded-by (Stays (lent r b s)) _ _ _ _ _ _ (λ _. (refl, refl)) (λ _. (refl, refl)) (λ _ _ _ _ e. none (Moved (fileSize G)) tt e)
-    stays (Restore b s) r =
+    stays (Restore q b s) r =
         guarded-by (Stays (lent r [] s)) _ _ _ _ _ _ (λ _. (refl, refl)) (λ _. (refl, refl))
         (λ _ _ _ _. unless-by (Stays (lent r [] s)) _ (Reason (reasonOf G b)) (lent r [] s) _ (λ _. (refl, refl)) (λ _ e. none (Moved 0) tt e))
 
@@ -154,6 +154,6 @@ module _ (G : Geometry) (bad : List ℕ) where
   scratch-back (CollectList m s) r = guarded-by (Hands (lent r [] s)) _ _ _ _ _ _ refl refl (λ _ _ _ _. refl)
   scratch-back (CollectThreshold t m s) r = guarded-by (Hands (lent r [] s)) _ _ _ _ _ _ refl refl (λ _ _ _ _. refl)
   scratch-back (Encode b s) r = guarded-by (Hands (lent r b s)) _ _ _ _ _ _ refl refl (λ _ _ _ _. refl)
-  scratch-back (Restore b s) r =
+  scratch-back (Restore q b s) r =
       guarded-by (Hands (lent r [] s)) _ _ _ _ _ _ refl refl
       (λ _ _ _ _. unless-by (Hands (lent r [] s)) _ (Reason (reasonOf G b)) (lent r [] s) _ refl (λ _. refl))

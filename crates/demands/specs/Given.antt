@@ -36,7 +36,7 @@ lentTo (Collect s) r = lent r [] s
 lentTo (CollectList m s) r = lent r [] s
 lentTo (CollectThreshold t m s) r = lent r [] s
 lentTo (Encode b s) r = lent r b s
-lentTo (Restore b s) r = lent r [] s
+lentTo (Restore q b s) r = lent r [] s
 
 -- tables of the right size: e + 5n + 2 + n·p words, n·p use marks
 pub record TablesFit (G : Geometry) (r : Recorder) : Type 0 where
@@ -68,13 +68,13 @@ module _ (G : Geometry) where
     SizesRight (CollectList m s) r = AllFits G bad (pageScratch G ∷ seenScratch G ∷ G.n ∷ []) s r
     SizesRight (CollectThreshold t m s) r = AllFits G bad (pageScratch G ∷ seenScratch G ∷ G.n ∷ []) s r
     SizesRight (Encode b s) r = Good G × TablesFit G r × (fileSize G ≤ length b) × Zeroed (seenScratch G ∷ []) s
-    SizesRight (Restore b s) r = Good G × TablesFit G r × Zeroed (pages G ∷ []) s
+    SizesRight (Restore q b s) r = Good G × TablesFit G r × Zeroed (pages G ∷ []) s
 
   -- "soundness": formatting, opening and restoring do not test it
   abbrev pub TablesSound : Call → Recorder → Type 0
   TablesSound Format r = Unit {0}
   TablesSound Open r = Unit {0}
-  TablesSound (Restore b s) r = Unit {0}
+  TablesSound (Restore q b s) r = Unit {0}
   TablesSound (Read sector len o s) r = Sound G (tab G r)
   TablesSound (Write sector len d s) r = Sound G (tab G r)
   TablesSound (Collect s) r = Sound G (tab G r)
@@ -92,7 +92,7 @@ module _ (G : Geometry) where
   Within (CollectList m s) = Unit {0}
   Within (CollectThreshold t m s) = Unit {0}
   Within (Encode b s) = Unit {0}
-  Within (Restore b s) = Unit {0}
+  Within (Restore q b s) = Unit {0}
 
 -- every test passed
 pub record Passed (G : Geometry) (bad : List ℕ) (c : Call) (r : Recorder) : Type 0 where

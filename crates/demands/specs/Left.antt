@@ -195,7 +195,7 @@ Row G bad Format k st st′ ops = ⊥
 Row G bad Open k st st′ ops = ⊥
 Row G bad (Read sector len o s) k st st′ ops = ⊥
 Row G bad (Encode b s) k st st′ ops = ⊥
-Row G bad (Restore b s) k st st′ ops = ⊥
+Row G bad (Restore q b s) k st st′ ops = ⊥
 
 -- what a call c on the recorder r that was refused with k leaves
 pub record Leaves (G : Geometry) (bad : List ℕ) (c : Call) (r : Recorder) (k : Cause) (o : Outcome) : Type 0 where

@@ -13,6 +13,7 @@ use Rattle.model.specs.Tables.{Tables, at}
 use Rattle.model.specs.Device.{Flash, flash, Op, EraseSeg, raised}
 use Rattle.model.specs.PageGc.{victim, lastOf}
 use Rattle.model.specs.Entry.{Recorder, recorder}
+use Rattle.model.specs.declared.Queueing.{Queueing}
 use Rattle.model.specs.History.{Call, Format, Open, Read, Write, Collect, CollectList, CollectThreshold, Encode, Restore, lit, run, after, opsOf, contentOf, mapIn}
 use Rattle.model.specs.History.{Elsewhere, Cut}
 use Rattle.demands.specs.Given.{tab}
@@ -27,7 +28,7 @@ Gentle Open = ⊥
 Gentle (Collect s) = ⊥
 Gentle (CollectList m s) = ⊥
 Gentle (CollectThreshold t m s) = ⊥
-Gentle (Restore b s) = ⊥
+Gentle (Restore q b s) = ⊥
 
 -- the segment that the next collection takes, if there is one, has no listed page
 abbrev pub Drained : Geometry → Recorder → Type 0
@@ -57,7 +58,7 @@ Allows G M t Format = ⊥
 Allows G M t Open = ⊥
 Allows G M t (CollectList m s) = ⊥
 Allows G M t (CollectThreshold k m s) = ⊥
-Allows G M t (Restore b s) = ⊥
+Allows G M t (Restore q b s) = ⊥
 
 -- the unit is r, and r₀ was encoded
 abbrev pub Next : Geometry → (r₀ r : Recorder) → Call → Type 0
@@ -70,8 +71,8 @@ pub data Careful (G : Geometry) (bad : List ℕ) (r₀ : Recorder) (file : List 
   lends-fuse : {r : Recorder} → Careful G bad r₀ file r → (f : ℕ) → Careful G bad r₀ file (lit f r)
   calls : {r : Recorder} → Careful G bad r₀ file r → (c : Call) → Next G r₀ r c → Careful G bad r₀ file (after G bad c r)
   regains : {r : Recorder} → Careful G bad r₀ file r → (c : Call) → Next G r₀ r c → (i : ℕ) (f : Flash) → Cut G i (opsOf G bad c r) (r .flash) f
-      → (w u : List ℕ) (s : List (List ℕ)) → run G bad (Restore file s) (recorder w u f) .answer ≡ Moved 0
-      → Careful G bad r₀ file (after G bad (Restore file s) (recorder w u f))
+      → (w u : List ℕ) (q : Queueing) (s : List (List ℕ)) → run G bad (Restore q file s) (recorder w u f) .answer ≡ Moved 0
+      → Careful G bad r₀ file (after G bad (Restore q file s) (recorder w u f))
 
 -- v is the first of those in xs whose key is least
 pub record First (key : ℕ → ℕ) (xs : List ℕ) (v : ℕ) : Type 0 where

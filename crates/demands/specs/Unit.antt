@@ -13,6 +13,7 @@ use Rattle.model.specs.Sound.{Mapped}
 use Rattle.model.specs.Device.{Flash, State, burn, formattedFlash}
 use Rattle.model.specs.Checkpoint.{fresh}
 use Rattle.model.specs.Entry.{Recorder, recorder, Outcome}
+use Rattle.model.specs.declared.Queueing.{Queueing}
 use Rattle.model.specs.History.{Call, Format, Open, Read, Write, Collect, CollectList, CollectThreshold, Encode, Restore}
 use Rattle.model.specs.History.{lit, run, after, opsOf, mapIn, IsRefused, Spares, Cut}
 use Rattle.demands.specs.Given.{stateIn}
@@ -48,7 +49,7 @@ Collects Open = ⊥
 Collects (Read sector len o s) = ⊥
 Collects (Write sector len d s) = ⊥
 Collects (Encode b s) = ⊥
-Collects (Restore b s) = ⊥
+Collects (Restore q b s) = ⊥
 
 -- each mapped page is marked as programmed
 abbrev pub MarkedAll : Geometry → State → Type 0
@@ -60,7 +61,7 @@ MarkedIn G r = MarkedAll G (stateIn G r)
 -- a formatting or a restore was refused, or the call is another one
 abbrev pub Ordinary : Call → Answer → Type 0
 Ordinary Format a = IsRefused a
-Ordinary (Restore b s) a = IsRefused a
+Ordinary (Restore q b s) a = IsRefused a
 Ordinary Open a = Unit {0}
 Ordinary (Read sector len o s) a = Unit {0}
 Ordinary (Write sector len d s) a = Unit {0}
@@ -87,6 +88,6 @@ pub data FromOpening (G : Geometry) (bad : List ℕ) : Recorder → Type 0 where
   lends-fuse : {r : Recorder} → FromOpening G bad r → (f : ℕ) → FromOpening G bad (lit f r)
   regains : {r₀ r : Recorder} → FromOpening G bad r₀ → (buffer : List ℕ) (scratch : List (List ℕ)) (n : ℕ)
       → run G bad (Encode buffer scratch) r₀ .answer ≡ Moved n
-      → Ever G bad r₀ r → (s : List (List ℕ))
-      → run G bad (Restore (take n (run G bad (Encode buffer scratch) r₀ .left .buffer)) s) r .answer ≡ Moved 0
-      → FromOpening G bad (after G bad (Restore (take n (run G bad (Encode buffer scratch) r₀ .left .buffer)) s) r)
+      → Ever G bad r₀ r → (q : Queueing) (s : List (List ℕ))
+      → run G bad (Restore q (take n (run G bad (Encode buffer scratch) r₀ .left .buffer)) s) r .answer ≡ Moved 0
+      → FromOpening G bad (after G bad (Restore q (take n (run G bad (Encode buffer scratch) r₀ .left .buffer)) s) r)

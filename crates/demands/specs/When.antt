@@ -142,7 +142,7 @@ DeedWhen G bad (Collect s) r a = PassWhen G bad (stateIn G r) a
 DeedWhen G bad (CollectList m s) r a = ListWhen G bad m (stateIn G r) a
 DeedWhen G bad (CollectThreshold t m s) r a = ThresholdWhen G bad t m (stateIn G r) a
 DeedWhen G bad (Encode b s) r a = a ≡ Moved (fileSize G)
-DeedWhen G bad (Restore b s) r a = ((reasonOf G b ≡ 0) × (a ≡ Moved 0)) ⊎ ((reasonOf G b ≢ 0) × (a ≡ Refused (Reason (reasonOf G b))))
+DeedWhen G bad (Restore q b s) r a = ((reasonOf G b ≡ 0) × (a ≡ Moved 0)) ⊎ ((reasonOf G b ≢ 0) × (a ≡ Refused (Reason (reasonOf G b))))
 
 -- 22: "geometry or a lent size is wrong; logical page >= e; offset + length > s; checkpoint buffer too short", in 01's order: logical
 -- page and overrun behind soundness, the checkpoint's buffer among the sizes

@@ -3,6 +3,7 @@ ghost use mathlib.Core.Path.{_≡_};
 ghost use mathlib.Core.List.{[], _∷_};
 ghost use Rattle.crc32.specs.Crc32.{crc32};
 ghost use Rattle.model.specs.declared.Numbers.the-variants.{New};
+ghost use Rattle.model.specs.declared.Queueing.the-variants.{Empty, Dead};
 ghost use Rattle.model.specs.Numbers.{geometry};
 ghost use Rattle.model.specs.Device.{flash};
 ghost use Rattle.model.specs.Entry.{recorder, lent, noFlash, Promise, PromiseIn};
@@ -11,6 +12,7 @@ ghost use Rattle.sizes.specs.declared.Size.{Size};
 ghost use Rattle.sizes.specs.Sizes.{sized};
 use model::Geometry;
 use model::Numbers;
+use model::Queueing;
 use sizes::Size;
 
 // Every segment erased, counts 0.
@@ -543,7 +545,7 @@ pub extern "C" fn shr_encode(
     ftl::encode(geo, tab, used, buffer, seen)
 }
 
-// The tables of a checkpoint.
+// The tables of a checkpoint, the queue empty: the old choice.
 #[no_mangle]
 pub extern "C" fn shr_restore(
     n: usize,
@@ -558,7 +560,7 @@ pub extern "C" fn shr_restore(
     taken: &mut [u8],
 ) -> i64
     ensures { λ r. ⌜ Promise
-        (restoring (geometry n p s w e limit) (now (file .entry))
+        (restoring (geometry n p s w e limit) Empty (now (file .entry))
         (lent (recorder (now (tab .entry)) (now (used .entry)) noFlash) [] (now (taken .entry) ∷ [])))
         (lent (recorder (now (tab .exit)) (now (used .exit)) noFlash) [] (now (taken .exit) ∷ [])) r ⌝ }
 {
@@ -570,7 +572,37 @@ pub extern "C" fn shr_restore(
         e,
         limit,
     };
-    ftl::restore(geo, file, tab, used, taken)
+    ftl::restore(geo, Queueing::Empty, file, tab, used, taken)
+}
+
+// The same with each segment queued that has free count 0 and a list shorter than p (02, M-109).
+#[no_mangle]
+pub extern "C" fn shr_restore_dead(
+    n: usize,
+    p: usize,
+    s: usize,
+    w: usize,
+    e: usize,
+    limit: usize,
+    file: &[u8],
+    tab: &mut [u32],
+    used: &mut [u8],
+    taken: &mut [u8],
+) -> i64
+    ensures { λ r. ⌜ Promise
+        (restoring (geometry n p s w e limit) Dead (now (file .entry))
+        (lent (recorder (now (tab .entry)) (now (used .entry)) noFlash) [] (now (taken .entry) ∷ [])))
+        (lent (recorder (now (tab .exit)) (now (used .exit)) noFlash) [] (now (taken .exit) ∷ [])) r ⌝ }
+{
+    let geo = Geometry {
+        n,
+        p,
+        s,
+        w,
+        e,
+        limit,
+    };
+    ftl::restore(geo, Queueing::Dead, file, tab, used, taken)
 }
 
 // The sizes of all that is lent; 0 for a geometry that is refused.

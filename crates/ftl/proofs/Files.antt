@@ -1,7 +1,7 @@
 -- Restoring and encoding, way by way.
 use Prim.Native.Nat.{ℕ, _<_}
 use native.Mathlib.Omega.{arith}
-use mathlib.Core.Path.{_≡_, refl, ap, _∙_}
+use mathlib.Core.Path.{_≡_, refl, sym, ap, _∙_}
 use mathlib.Core.Logic.{_≢_}
 use mathlib.Core.Bool.{Bool, true, false}
 use mathlib.Core.List.{List, [], _∷_}
@@ -10,51 +10,58 @@ use lib.ListN.{length}
 use lib.IntN.{ℤ, pos}
 use borrow.Author.Tests.{eq-eqb, ne-eqb}
 use Rattle.model.specs.declared.Geometry.{Geometry}
+use Rattle.model.specs.declared.Queueing.{Queueing}
 use Rattle.model.specs.declared.Numbers.the-variants.{Old}
 use Rattle.model.specs.declared.Cause.the-variants.{Wrong, Unsound, Reason}
 use Rattle.model.specs.declared.Answer.the-variants.{Refused}
 use Rattle.model.specs.Lists.{every, splice}
 use Rattle.model.specs.Numbers.{Good, good?, number}
-use Rattle.model.specs.Tables.{tabWords, pages, view}
+use Rattle.model.specs.Tables.{Tables, at, tabWords, oQueued, pages, view}
 use Rattle.model.specs.Sound.{soundb}
-use Rattle.model.specs.Checkpoint.{fileSize, sealed, reasonOf, restoredFrom}
+use Rattle.model.specs.Checkpoint.{fileSize, sealed, reasonOf, mapOf, freeOf, allocOf, restoredFrom, restoredBy}
 use Rattle.model.specs.Entry.{Lent, lent, recorder, Promise, tablesOf, tablesFit, clean, seenScratch, restoring, encoding}
 use Rattle.model.proofs.Held.{slots}
+use Rattle.model.proofs.View.{queued-at}
+use Rattle.model.proofs.Requeue.{restored-queued}
 use Rattle.model.proofs.Refusals.{guarded-sound}
 use Rattle.model.proofs.Guard.{guarded-passes, unless-passes}
 use Rattle.ftl.proofs.Guards.{by, all-sizes, bad-geometry, bad-size, unless-fails}
 use Rattle.ftl.proofs.Opening.{words-are, marks-are}
 
+-- what a file says is queued by nobody yet
+pub none-queued : (G : Geometry) (b w u : List ℕ) → view G w u ≡ restoredFrom G b → at w (oQueued G) ≡ 0
+none-queued G b w u v = sym (queued-at G w u) ∙ ap (λ (t : Tables). t .queued) v ∙ restored-queued G (mapOf G b) (freeOf G b) (allocOf G b)
+
 -- the length of a file is a signed word
 pub file-small : (G : Geometry) → Good G → fileSize G < 9223372036854775808
 file-small G K = omega (arith, slots K, K .e≤, K .n≤)
 
-module _ (G : Geometry) (b : List ℕ) (x : Lent) where
+module _ (G : Geometry) (q : Queueing) (b : List ℕ) (x : Lent) where
   -- what restoring tests beside the geometry
   abbrev pub restoreTests : List Bool
   restoreTests = tablesFit G x ∷ clean (pages G ∷ []) (x .scratch) ∷ []
 
-  pub restoring-wrong : good? G ≡ false → Promise (restoring G b x) x (number Old (Refused Wrong))
+  pub restoring-wrong : good? G ≡ false → Promise (restoring G q b x) x (number Old (Refused Wrong))
   unfolding restoring
   restoring-wrong = bad-geometry G restoreTests true true true x _
 
-  pub restoring-size : every restoreTests ≡ false → Promise (restoring G b x) x (number Old (Refused Wrong))
+  pub restoring-size : every restoreTests ≡ false → Promise (restoring G q b x) x (number Old (Refused Wrong))
   unfolding restoring
   restoring-size = bad-size G restoreTests true true true x _
 
   module _ (g : good? G ≡ true) (e : every restoreTests ≡ true) where
-    pub restoring-reason : (k : ℕ) (r : ℤ) → k ≡ reasonOf G b → k ≢ 0 → r ≡ number Old (Refused (Reason k)) → Promise (restoring G b x) x r
+    pub restoring-reason : (k : ℕ) (r : ℤ) → k ≡ reasonOf G b → k ≢ 0 → r ≡ number Old (Refused (Reason k)) → Promise (restoring G q b x) x r
     unfolding restoring
-    restoring-reason k r q h n =
-        by (guarded-passes _ true true true x _ (all-sizes G restoreTests g e) refl refl refl ∙ unless-fails _ _ x _ (ne-eqb (reasonOf G b) 0 (λ z. h (q ∙ z))))
-        (record { left-is = refl; answer-is = n ∙ ap (λ m. number Old (Refused (Reason m))) q })
+    restoring-reason k r i h n =
+        by (guarded-passes _ true true true x _ (all-sizes G restoreTests g e) refl refl refl ∙ unless-fails _ _ x _ (ne-eqb (reasonOf G b) 0 (λ z. h (i ∙ z))))
+        (record { left-is = refl; answer-is = n ∙ ap (λ m. number Old (Refused (Reason m))) i })
 
-    pub restoring-done : reasonOf G b ≡ 0 → (w u : List ℕ) (s : List (List ℕ)) → length w ≡ tabWords G → view G w u ≡ restoredFrom G b → s ≡ x .scratch
-        → Promise (restoring G b x) (lent (recorder w u (x .unit .flash)) (x .buffer) s) (pos 0)
+    pub restoring-done : reasonOf G b ≡ 0 → (w u : List ℕ) (s : List (List ℕ)) → length w ≡ tabWords G → view G w u ≡ restoredBy G q b → s ≡ x .scratch
+        → Promise (restoring G q b x) (lent (recorder w u (x .unit .flash)) (x .buffer) s) (pos 0)
     unfolding restoring
-    restoring-done r w u s h v q =
+    restoring-done r w u s h v z =
         by (guarded-passes _ true true true x _ (all-sizes G restoreTests g e) refl refl refl ∙ unless-passes _ _ x _ (eq-eqb (reasonOf G b) 0 r))
-        (record { left-is = cc (words-are G w u _ h v, marks-are G w u _ h v, q); answer-is = refl })
+        (record { left-is = cc (words-are G w u _ h v, marks-are G w u _ h v, z); answer-is = refl })
 
 module _ (G : Geometry) (x : Lent) where
   -- what encoding tests beside the geometry

@@ -17,6 +17,7 @@ use model::Geometry;
 use model::LogicalPage;
 use model::Numbers;
 use model::PhysicalAddress;
+use model::Queueing;
 
 // "Formatting erases every segment, whatever its count, sets counts to 0 and answers 0; it tests geometry and sizes only."
 pub fn format(
@@ -340,16 +341,17 @@ pub fn encode(geo: Geometry, tab: &[u32], used: &[u8], buffer: &mut [u8], seen: 
     checkpoint::file_size(geo) as i64
 }
 
-// Restoring: the nine reasons first, then the tables are those of the file.
+// Restoring: the nine reasons first, then the tables are those of the file, with the queue that was chosen.
 pub fn restore(
     geo: Geometry,
+    queueing: Queueing,
     file: &[u8],
     tab: &mut [u32],
     used: &mut [u8],
     taken: &mut [u8],
 ) -> i64
     ensures { λ r. ⌜ Promise
-        (restoring geo (now (file .entry)) (lent (recorder (now (tab .entry)) (now (used .entry)) noFlash) [] (now (taken .entry) ∷ [])))
+        (restoring geo queueing (now (file .entry)) (lent (recorder (now (tab .entry)) (now (used .entry)) noFlash) [] (now (taken .entry) ∷ [])))
         (lent (recorder (now (tab .exit)) (now (used .exit)) noFlash) [] (now (taken .exit) ∷ [])) r ⌝ }
 {
     if !sound::good(geo) {
@@ -363,5 +365,6 @@ pub fn restore(
         return guard::number(Numbers::Old, Answer::Refused(Cause::Reason(why)));
     }
     checkpoint::restore(geo, file, tab, used, taken);
+    requeue::requeue(geo, queueing, tab);
     0
 }

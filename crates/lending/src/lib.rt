@@ -10,6 +10,7 @@ ghost use Rattle.model.specs.Entry.{write, read, collection, listCollection, en
 ghost use Rattle.lending.specs.Does.{Small, Does};
 use model::Geometry;
 use model::Numbers;
+use model::Queueing;
 
 // Bytes that stand at a place of xs, written at a sector.
 pub fn write(
@@ -182,15 +183,21 @@ pub fn encode(geo: Geometry, tab: &[u32], used: &[u8], buffer: &mut [u8]) -> i64
 }
 
 // The tables of a checkpoint.
-pub fn restore(geo: Geometry, file: &[u8], tab: &mut [u32], used: &mut [u8]) -> i64
+pub fn restore(
+    geo: Geometry,
+    queueing: Queueing,
+    file: &[u8],
+    tab: &mut [u32],
+    used: &mut [u8],
+) -> i64
     requires { ⌜ Small geo ⌝ }
     ensures { λ r. ⌜ Does
-        (restoring geo (now (file .entry)) (lent (recorder (now (tab .entry)) (now (used .entry)) noFlash) []
+        (restoring geo queueing (now (file .entry)) (lent (recorder (now (tab .entry)) (now (used .entry)) noFlash) []
         (zeros (pages geo) ∷ [])))
         (recorder (now (tab .exit)) (now (used .exit)) noFlash) [] r ⌝ }
 {
     let mut taken_space = [0u8; 1024];
     let taken: &mut [u8] = &mut taken_space;
     let pages = geo.n * geo.p;
-    ftl::restore(geo, file, tab, used, &mut taken[0..pages])
+    ftl::restore(geo, queueing, file, tab, used, &mut taken[0..pages])
 }

@@ -14,7 +14,7 @@ use Rattle.model.specs.Numbers.{Geometry, Good, good?, Moved, Refused, e
 use Rattle.model.specs.Tables.{Tables, tabWords, pages}
 use Rattle.model.specs.Device.{Flash, Op, state, pageAt, performAll}
 use Rattle.model.specs.PageWrite.{content}
-use Rattle.model.specs.Checkpoint.{sealed, fileSize, reasonOf, restoredFrom}
+use Rattle.model.specs.Checkpoint.{Queueing, restoredBy, sealed, fileSize, reasonOf, restoredFrom}
 use Rattle.model.specs.Entry.{Recorder, Lent, lent, Outcome, tablesFit, tablesOf, clean, seenScratch, formatting, encoding, restoring}
 use Rattle.model.specs.History.{Call, Format, Encode, Restore, lit, run, after, opsOf, contentOf, mapIn, Cut, Spares, IsRefused}
 use Rattle.model.specs.History.{Keeps, Phase, running, lost, Allowed, Since, checkpoint, lent-fuse, called, off, cut, regained, GivesBack}
@@ -25,7 +25,8 @@ use Rattle.model.proofs.Official.{soundb-counted, counted-sound}
 use Rattle.model.proofs.Content.{content-same}
 use Rattle.model.proofs.Ops.{Holds, SafeOps, all-kept, cut-kept}
 use Rattle.model.proofs.Restore.{Back}
-use Rattle.model.proofs.Sealed.{saved-passes, comes-back, accepted-sound, file-end}
+use Rattle.model.proofs.Requeue.{accepted-by, requeued-back}
+use Rattle.model.proofs.Sealed.{saved-passes, comes-back, file-end}
 use Rattle.model.proofs.Guard.{each, good-test, test-good, tables-test, test-tables, clean-zeros, unless-passes, guarded-passes, guarded-by}
 use Rattle.model.proofs.Entry.{SoundIn, tab, packed-in, Step, stepped, Begun, Stayed}
 use Rattle.model.proofs.Entry.{opened-or, restored-or, by-kind, Wiped, wiped, opened-flash, restored-flash, performs}
@@ -96,17 +97,17 @@ module _ (G : Geometry) (bad : List ℕ) (r₀ : Recorder) (K : Good G) (S₀ : 
   Inv lost r = Pages (r .flash)
 
   -- the checkpoint's tables come back with its map and free counts
-  B₀ : Back t₀ (restoredFrom G file)
-  B₀ = comes-back G K t₀ S₀
+  B₀ : (q : Queueing) → Back t₀ (restoredBy G q file)
+  B₀ q = requeued-back G q t₀ (restoredFrom G file) (comes-back G K t₀ S₀)
 
   -- a restore of the file that is not refused
-  restored-still : (r : Recorder) (o : Outcome) → Pages (r .flash) → Begun G r (restoredFrom G file) o → Still (o .left .unit)
+  restored-still : (q : Queueing) (r : Recorder) (o : Outcome) → Pages (r .flash) → Begun G r (restoredBy G q file) o → Still (o .left .unit)
   unfolding Pages
-  restored-still r o P b =
+  restored-still q r o P b =
       subst Still (sym (b .unit))
       (record {
-        sound = packed-in G (restoredFrom G file) (r .flash) (b .counted);
-        holds = subst (λ t. Holds G M (t .free)) (sym (view-packed (b .counted .sized))) (rw (B₀ .free) held₀);
+        sound = packed-in G (restoredBy G q file) (r .flash) (b .counted);
+        holds = subst (λ t. Holds G M (t .free)) (sym (view-packed (b .counted .sized))) (rw (B₀ q .free) held₀);
         pages = P;
       })
 
@@ -164,17 +165,17 @@ module _ (G : Geometry) (bad : List ℕ) (r₀ : Recorder) (K : Good G) (S₀ : 
   opened-still r t o B k (inl s) = stayed-still r (lent r [] []) o refl B s
   opened-still r t o B k (inr b) = absurd (subst IsRefused (b .answer) k)
 
-  restore-still : (r : Recorder) (b : List ℕ) (s : List (List ℕ)) (o : Outcome) → Still r → (b ≡ file) ⊎ IsRefused (o .answer)
-      → Stayed (lent r [] s) o ⊎ Begun G r (restoredFrom G b) o → Still (o .left .unit)
-  restore-still r b s o B k (inl y) = stayed-still r (lent r [] s) o refl B y
-  restore-still r b s o B (inl e) (inr y) = restored-still r o (B .pages) (subst (λ z. Begun G r (restoredFrom G z) o) e y)
-  restore-still r b s o B (inr k) (inr y) = absurd (subst IsRefused (y .answer) k)
+  restore-still : (q : Queueing) (r : Recorder) (b : List ℕ) (s : List (List ℕ)) (o : Outcome) → Still r → (b ≡ file) ⊎ IsRefused (o .answer)
+      → Stayed (lent r [] s) o ⊎ Begun G r (restoredBy G q b) o → Still (o .left .unit)
+  restore-still q r b s o B k (inl y) = stayed-still r (lent r [] s) o refl B y
+  restore-still q r b s o B (inl e) (inr y) = restored-still q r o (B .pages) (subst (λ z. Begun G r (restoredBy G q z) o) e y)
+  restore-still q r b s o B (inr k) (inr y) = absurd (subst IsRefused (y .answer) k)
 
   called-still : (c : Call) (r : Recorder) → Still r → Keeps file c (run G bad c r .answer) → Spares G M (run G bad c r .ops) → Still (after G bad c r)
   called-still c r B =
       by-kind (λ c. Keeps file c (run G bad c r .answer) → Spares G M (run G bad c r .ops) → Still (after G bad c r))
       (λ k _. opened-still r _ _ B (k .no-opening refl) (opened-or G (lent r [] [])))
-      (λ b s k _. restore-still r b s _ B (k .no-other b s refl) (restored-or G b (lent r [] s)))
+      (λ q b s k _. restore-still q r b s _ B (k .no-other q b s refl) (restored-or G q b (lent r [] s)))
       (λ c n _ e. stepped-still r _ _ B (stepped G bad c r n) e)
       c
 
@@ -184,7 +185,7 @@ module _ (G : Geometry) (bad : List ℕ) (r₀ : Recorder) (K : Good G) (S₀ : 
   listed c r B =
       by-kind (λ c. Listed (r .flash) (opsOf G bad c r))
       (inl (opened-flash G bad (lit endless r) .1))
-      (λ b s. inl (restored-flash G bad b s (lit endless r) .1))
+      (λ q b s. inl (restored-flash G bad q b s (lit endless r) .1))
       (λ c n. relisted r endless _ (step-listed (lit endless r) _ _ (B .holds) (stepped G bad c (lit endless r) n)))
       c
 
@@ -221,10 +222,10 @@ module _ (G : Geometry) (bad : List ℕ) (r₀ : Recorder) (K : Good G) (S₀ : 
       subst (λ c. Spares G M (take (suc i) (opsOf G bad c r)) → Cut G i (opsOf G bad c r) (r .flash) f → Pages f) (sym q) (formatted-cut r i f P) e k
   cut-inv lost c r i f P (inr q) e k = subst Pages (sym (subst (λ os. Cut G i os (r .flash) f) q k)) P
 
-  regained-still : (r : Recorder) (s : List (List ℕ)) (o : Outcome) → Pages (r .flash) → o .answer ≡ Moved 0
-      → Stayed (lent r [] s) o ⊎ Begun G r (restoredFrom G file) o → Still (o .left .unit)
-  regained-still r s o P e (inl y) = absurd (let z : _≡_ {A = ℕ} 0 1 = cc in omega arith)
-  regained-still r s o P e (inr y) = restored-still r o P y
+  regained-still : (q : Queueing) (r : Recorder) (s : List (List ℕ)) (o : Outcome) → Pages (r .flash) → o .answer ≡ Moved 0
+      → Stayed (lent r [] s) o ⊎ Begun G r (restoredBy G q file) o → Still (o .left .unit)
+  regained-still q r s o P e (inl y) = absurd (let z : _≡_ {A = ℕ} 0 1 = cc in omega arith)
+  regained-still q r s o P e (inr y) = restored-still q r o P y
 
   pages-of : (p : Phase) (r : Recorder) → Inv p r → Pages (r .flash)
   unfolding Inv
@@ -248,33 +249,33 @@ module _ (G : Geometry) (bad : List ℕ) (r₀ : Recorder) (K : Good G) (S₀ : 
   still S (called {p} {r} h c q k e) = called-inv p c r (still S h) q k e
   still S (off {p} {r} h w u) = pages-of p r (still S h)
   still S (cut {p} {r} h c q i f e k w u) = cut-inv p c r i f (still S h) q e k
-  still S (regained {r} h s e) = regained-still r s _ (still S h) e (restored-or G file (lent r [] s))
+  still S (regained {r} h q s e) = regained-still q r s _ (still S h) e (restored-or G q file (lent r [] s))
 
   -- over tables of the right size and clean scratch the restore is not refused
-  pub restores : (r : Recorder) → length (r .words) ≡ tabWords G → length (r .used) ≡ pages G
-      → Begun G r (restoredFrom G file) (run G bad (Restore file (zeros (pages G) ∷ [])) r)
+  pub restores : (q : Queueing) (r : Recorder) → length (r .words) ≡ tabWords G → length (r .used) ≡ pages G
+      → Begun G r (restoredBy G q file) (run G bad (Restore q file (zeros (pages G) ∷ [])) r)
   unfolding restoring every
-  restores r a b =
+  restores q r a b =
       let p : every (good? G ∷ tablesFit G x ∷ clean (pages G ∷ []) (x .scratch) ∷ []) ≡ true =
       rw (test-good G K, test-tables G x a b, clean-zeros (pages G)) in
-      let q : eqb (reasonOf G file) 0 ≡ true = eq-eqb _ _ (saved-passes G K t₀ S₀) in
-      subst (Begun G r (restoredFrom G file)) (sym (guarded-passes _ _ _ _ x _ p refl refl refl ∙ unless-passes _ _ x _ q))
-      (record { good = K; counted = accepted-sound G file (saved-passes G K t₀ S₀) K; unit = refl; answer = refl; ops = refl })
+      let e : eqb (reasonOf G file) 0 ≡ true = eq-eqb _ _ (saved-passes G K t₀ S₀) in
+      subst (Begun G r (restoredBy G q file)) (sym (guarded-passes _ _ _ _ x _ p refl refl refl ∙ unless-passes _ _ x _ e))
+      (record { good = K; counted = accepted-by G q file (saved-passes G K t₀ S₀) K; unit = refl; answer = refl; ops = refl })
     where
       x : Lent
       x = lent r [] (zeros (pages G) ∷ [])
 
   pub gives-back : SoundIn G r₀ → {r : Recorder} → Since G bad r₀ file lost r → length (r .words) ≡ tabWords G → length (r .used) ≡ pages G
-      → GivesBack G bad r₀ file r
+      → (q : Queueing) → GivesBack G bad r₀ file q r
   unfolding Inv Pages
-  gives-back S {r} h a b =
-      let D : Begun G r (restoredFrom G file) (run G bad (Restore file (zeros (pages G) ∷ [])) r) = restores r a b in
+  gives-back S {r} h a b q =
+      let D : Begun G r (restoredBy G q file) (run G bad (Restore q file (zeros (pages G) ∷ [])) r) = restores q r a b in
       record {
         answer = D .answer;
         contents = λ l.
-            ap (λ q. contentOf G q l) (D .unit)
+            ap (λ z. contentOf G z l) (D .unit)
             ∙ ap (λ t. content G (state t (r .flash)) l) (view-packed (D .counted .sized))
-            ∙ content-same G (state t₀ (r₀ .flash)) (state (restoredFrom G file) (r .flash)) l (ap (λ x. getD x l empty) (B₀ .map)) (λ m. still S h l m);
+            ∙ content-same G (state t₀ (r₀ .flash)) (state (restoredBy G q file) (r .flash)) l (ap (λ x. getD x l empty) (B₀ q .map)) (λ m. still S h l m);
       }
 
 -- Demand 3, second half. A checkpoint was taken of r₀: the encoding was not refused. Whatever was done since, as `Since` says, and wherever
@@ -283,9 +284,9 @@ pub cut-restores : (G : Geometry) (bad : List ℕ) (r₀ : Recorder) (buffer : L
     → run G bad (Encode buffer scratch) r₀ .answer ≡ Moved m
     → {r : Recorder} → Since G bad r₀ (take m (run G bad (Encode buffer scratch) r₀ .left .buffer)) lost r
     → length (r .words) ≡ tabWords G → length (r .used) ≡ pages G
-    → GivesBack G bad r₀ (take m (run G bad (Encode buffer scratch) r₀ .left .buffer)) r
-cut-restores G bad r₀ buffer scratch m e {r} h a b =
+    → (q : Queueing) → GivesBack G bad r₀ (take m (run G bad (Encode buffer scratch) r₀ .left .buffer)) q r
+cut-restores G bad r₀ buffer scratch m e {r} h a b q =
     let E : Encoded G (lent r₀ buffer scratch) m (run G bad (Encode buffer scratch) r₀ .left .buffer) = encoded G (lent r₀ buffer scratch) m e in
     let S : SoundIn G r₀ = record { words-size = E .words-size; used-size = E .used-size; sound = counted-sound G (tab G r₀) (E .counted) } in
-    subst (λ z. GivesBack G bad r₀ z r) (sym (E .file))
-    (gives-back G bad r₀ (E .good) (E .counted) S (subst (λ z. Since G bad r₀ z lost r) (E .file) h) a b)
+    subst (λ z. GivesBack G bad r₀ z q r) (sym (E .file))
+    (gives-back G bad r₀ (E .good) (E .counted) S (subst (λ z. Since G bad r₀ z lost r) (E .file) h) a b q)

@@ -15,7 +15,7 @@ use Rattle.model.specs.Tables.{Tables, wordOf, tabWords, pages, view, pa
 use Rattle.model.specs.Sound.{Sound, SoundTables, soundb, Mapped}
 use Rattle.model.specs.Device.{Flash, Op, state, Out, performAll, formatFrom}
 use Rattle.model.specs.PageWrite.{content, writePage}
-use Rattle.model.specs.Checkpoint.{opened, reasonOf, restoredFrom}
+use Rattle.model.specs.Checkpoint.{Queueing, opened, reasonOf, restoredBy}
 use Rattle.model.specs.Entry.{Recorder, recorder, Lent, lent, Outcome, refused, unless, guarded, tablesOf}
 use Rattle.model.specs.Entry.{stateOf, back, tablesFit, flashFits, pageScratch, seenScratch, allFits, clean, formatting}
 use Rattle.model.specs.Entry.{opening, read, write, collecting, collection, listCollection, thresholdCollection, encoding, restoring}
@@ -31,7 +31,7 @@ use Rattle.model.proofs.Write.{Wrote, wrote}
 use Rattle.model.proofs.Collect.{Kept, collected, collected-list, collected-threshold}
 use Rattle.model.proofs.Format.{Formatted, formatted}
 use Rattle.model.proofs.Base.{opened-sound}
-use Rattle.model.proofs.Sealed.{accepted-sound}
+use Rattle.model.proofs.Requeue.{accepted-by}
 use Rattle.model.proofs.Fuse.{fused-write, fused-collect, fused-list, fused-threshold, fused-format}
 use Rattle.model.proofs.Guard.{each, good-test, tables-test, flash-test, guarded-by, unless-by}
 
@@ -266,18 +266,28 @@ opened-or G x =
     let K : Good G = good-test G (t 0) in
     inr (record { good = K; counted = opened-sound G K (tablesOf G x .alloc); unit = refl; answer = refl; ops = refl }))
 
-pub restored-or : (G : Geometry) (b : List ℕ) (x : Lent) → Stayed x (restoring G b x) ⊎ Begun G (x .unit) (restoredFrom G b) (restoring G b x)
+pub restored-or : (G : Geometry) (q : Queueing) (b : List ℕ) (x : Lent)
+    → Stayed x (restoring G q b x) ⊎ Begun G (x .unit) (restoredBy G q b) (restoring G q b x)
 unfolding restoring
-restored-or G b x =
-    guarded-by (λ y. Stayed x y ⊎ Begun G (x .unit) (restoredFrom G b) y) _ _ _ _ x _
+restored-or G q b x =
+    guarded-by (λ y. Stayed x y ⊎ Begun G (x .unit) (restoredBy G q b) y) _ _ _ _ x _
     (inl (record { cause = Wrong; is = refl }))
     (inl (record { cause = Unsound; is = refl }))
     (λ a _ _ _.
     let t : (i : ℕ) → _ = each (good? G ∷ tablesFit G x ∷ clean (pages G ∷ []) (x .scratch) ∷ []) a in
     let K : Good G = good-test G (t 0) in
-    unless-by (λ y. Stayed x y ⊎ Begun G (x .unit) (restoredFrom G b) y) (eqb (reasonOf G b) 0) (Reason (reasonOf G b)) x _
+    unless-by (λ y. Stayed x y ⊎ Begun G (x .unit) (restoredBy G q b) y) (eqb (reasonOf G b) 0) (Reason (reasonOf G b)) x _
     (inl (record { cause = Reason (reasonOf G b); is = refl }))
-    (λ e. inr (record { good = K; counted = accepted-sound G b (eqb-true _ _ e) K; unit = refl; answer = refl; ops = refl })))
+    (λ e. inr (record { good = K; counted = accepted-by G q b (eqb-true _ _ e) K; unit = refl; answer = refl; ops = refl })))
+
+-- a restore that is not refused had a file without a reason
+pub restored-passes : (G : Geometry) (q : Queueing) (b : List ℕ) (x : Lent) → restoring G q b x .answer ≡ Moved 0 → reasonOf G b ≡ 0
+unfolding restoring
+restored-passes G q b x =
+    guarded-by (λ y. y .answer ≡ Moved 0 → reasonOf G b ≡ 0) _ _ _ _ x _ (λ e. absurd (let z : _≡_ {A = ℕ} 0 1 = cc in omega arith))
+    (λ e. absurd (let z : _≡_ {A = ℕ} 0 1 = cc in omega arith))
+    (λ _ _ _ _. unless-by (λ y. y .answer ≡ Moved 0 → reasonOf G b ≡ 0) (eqb (reasonOf G b) 0) (Reason (reasonOf G b)) x _
+    (λ e. absurd (let z : _≡_ {A = ℕ} 0 1 = cc in omega arith)) (λ e _. eqb-true _ _ e))
 
 begun-sound : (G : Geometry) (r : Recorder) (t : Tables) (o : Outcome) → Begun G r t o → SoundIn G (o .left .unit)
 begun-sound G r t o B = subst (SoundIn G) (sym (B .unit)) (packed-in G t (r .flash) (B .counted))
@@ -288,9 +298,12 @@ module _ (G : Geometry) (x : Lent) (t : Tables) (o : Outcome) where
   or-sound (inl s) S = subst (λ y. SoundIn G (y .left .unit)) (sym (s .is)) S
   or-sound (inr b) S = begun-sound G (x .unit) t o b
 
+  pub or-begun : Stayed x o ⊎ Begun G (x .unit) t o → o .answer ≡ Moved 0 → Begun G (x .unit) t o
+  or-begun (inl s) e = absurd (let z : _≡_ {A = ℕ} 0 1 = cc in omega arith)
+  or-begun (inr b) e = b
+
   or-answered : Stayed x o ⊎ Begun G (x .unit) t o → o .answer ≡ Moved 0 → SoundIn G (o .left .unit)
-  or-answered (inl s) e = absurd (let z : _≡_ {A = ℕ} 0 1 = cc in omega arith)
-  or-answered (inr b) e = begun-sound G (x .unit) t o b
+  or-answered b e = begun-sound G (x .unit) t o (or-begun b e)
 
   pub or-flash : Stayed x o ⊎ Begun G (x .unit) t o → (o .left .unit .flash ≡ x .unit .flash) × (o .ops ≡ [])
   or-flash (inl s) = (ap (λ y. y .left .unit .flash) (s .is), ap (λ y. y .ops) (s .is))
@@ -308,10 +321,10 @@ stepped G bad (Collect s) r n = step-collecting G bad (lent r [] s) _ (λ K S F.
 stepped G bad (CollectList m s) r n = step-collecting G bad (lent r [] s) _ (λ K S F. collected-list G K bad m _ S F)
 stepped G bad (CollectThreshold t m s) r n = step-collecting G bad (lent r [] s) _ (λ K S F. collected-threshold G K bad t m _ S F)
 stepped G bad (Encode b s) r n = step-same G r (encoding G (lent r b s)) (encoding-unit G (lent r b s))
-stepped G bad (Restore b s) r n = absurd (n tt)
+stepped G bad (Restore q b s) r n = absurd (n tt)
 
 -- a fact of every call: of an opening, of a restore, and of the calls that begin nothing
-pub by-kind : (P : Call → Type 0) → P Open → ((b : List ℕ) (s : List (List ℕ)) → P (Restore b s)) → ((c : Call) → (Begins c → ⊥) → P c) → (c : Call) → P c
+pub by-kind : (P : Call → Type 0) → P Open → ((q : Queueing) (b : List ℕ) (s : List (List ℕ)) → P (Restore q b s)) → ((c : Call) → (Begins c → ⊥) → P c) → (c : Call) → P c
 by-kind P o r f Format = f Format (λ z. z)
 by-kind P o r f Open = o
 by-kind P o r f (Read sector len b s) = f (Read sector len b s) (λ z. z)
@@ -320,7 +333,7 @@ by-kind P o r f (Collect s) = f (Collect s) (λ z. z)
 by-kind P o r f (CollectList m s) = f (CollectList m s) (λ z. z)
 by-kind P o r f (CollectThreshold t m s) = f (CollectThreshold t m s) (λ z. z)
 by-kind P o r f (Encode b s) = f (Encode b s) (λ z. z)
-by-kind P o r f (Restore b s) = r b s
+by-kind P o r f (Restore q b s) = r q b s
 
 module _ (G : Geometry) (bad : List ℕ) where
   -- "Every public call leaves sound tables sound."
@@ -328,7 +341,7 @@ module _ (G : Geometry) (bad : List ℕ) where
   kept-sound c r S =
       by-kind (λ c. SoundIn G (after G bad c r))
       (or-sound G (lent r [] []) _ _ (opened-or G (lent r [] [])) S)
-      (λ b s. or-sound G (lent r [] s) _ _ (restored-or G b (lent r [] s)) S)
+      (λ q b s. or-sound G (lent r [] s) _ _ (restored-or G q b (lent r [] s)) S)
       (λ c n. stepped G bad c r n .sound S)
       c
 
@@ -336,16 +349,16 @@ module _ (G : Geometry) (bad : List ℕ) where
   pub opened-flash : (r : Recorder) → (after G bad Open r .flash ≡ r .flash) × (run G bad Open r .ops ≡ [])
   opened-flash r = or-flash G (lent r [] []) (opened G (tab G r .alloc)) (opening G (lent r [] [])) (opened-or G (lent r [] []))
 
-  pub restored-flash : (b : List ℕ) (s : List (List ℕ)) (r : Recorder)
-      → (after G bad (Restore b s) r .flash ≡ r .flash) × (run G bad (Restore b s) r .ops ≡ [])
-  restored-flash b s r = or-flash G (lent r [] s) (restoredFrom G b) (restoring G b (lent r [] s)) (restored-or G b (lent r [] s))
+  pub restored-flash : (q : Queueing) (b : List ℕ) (s : List (List ℕ)) (r : Recorder)
+      → (after G bad (Restore q b s) r .flash ≡ r .flash) × (run G bad (Restore q b s) r .ops ≡ [])
+  restored-flash q b s r = or-flash G (lent r [] s) (restoredBy G q b) (restoring G q b (lent r [] s)) (restored-or G q b (lent r [] s))
 
   -- the flash after a call is the flash before it with the call's operations done
   pub performs : (c : Call) (r : Recorder) → after G bad c r .flash ≡ performAll G (run G bad c r .ops) (r .flash)
   performs c r =
       by-kind (λ c. after G bad c r .flash ≡ performAll G (run G bad c r .ops) (r .flash))
       (idle Open (opened-flash r))
-      (λ b s. idle (Restore b s) (restored-flash b s r))
+      (λ q b s. idle (Restore q b s) (restored-flash q b s r))
       (λ c n. stepped G bad c r n .performs)
       c
     where
@@ -357,7 +370,7 @@ module _ (G : Geometry) (bad : List ℕ) where
 
   pub reached-sound : {r : Recorder} → Reached G bad r → SoundIn G r
   reached-sound (by-opening r e) = or-answered G (lent r [] []) _ _ (opened-or G (lent r [] [])) e
-  reached-sound (by-restoring r b s e) = or-answered G (lent r [] s) _ _ (restored-or G b (lent r [] s)) e
+  reached-sound (by-restoring r q b s e) = or-answered G (lent r [] s) _ _ (restored-or G q b (lent r [] s)) e
   reached-sound (called {r} h c) = kept-sound c r (reached-sound h)
   reached-sound (lent-fuse {r} h f) =
       let S : SoundIn G r = reached-sound h in
@@ -400,7 +413,7 @@ module _ (G : Geometry) (bad : List ℕ) where
   fused (CollectList m s) f h r = guarded-ops f _ _ _ _ _ _ _ _ (fused-list G bad f h (stateOf G (lent r [] s)) m)
   fused (CollectThreshold t m s) f h r = guarded-ops f _ _ _ _ _ _ _ _ (fused-threshold G bad f h (stateOf G (lent r [] s)) t m)
   fused (Encode b s) f h r = quiet f _ _ (encoding-unit G (lent (lit f r) b s) .1) (encoding-unit G (lent (lit endless r) b s) .1)
-  fused (Restore b s) f h r = quiet f _ _ (restored-flash b s (lit f r) .1) (restored-flash b s (lit endless r) .1)
+  fused (Restore q b s) f h r = quiet f _ _ (restored-flash q b s (lit f r) .1) (restored-flash q b s (lit endless r) .1)
 
   pub fuse-law : (c : Call) (f : ℕ) → f < endless → (r : Recorder)
       → after G bad c (lit f r) .flash ≡ performAll G (take f (opsOf G bad c r)) (lit f r .flash)

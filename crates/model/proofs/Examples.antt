@@ -14,7 +14,7 @@ use Rattle.model.specs.Device.{Flash, flash, burn, mayProgram, mayErase,
 use Rattle.model.specs.PageMap.{clearFrom, findFrom, find, invalidate, forget}
 use Rattle.model.specs.PageWrite.{oldPage, writeAt, writePage}
 use Rattle.model.specs.PageGc.{sorted, finishOf, drain, collectOf, collect, collectMore, collectList, collectThreshold}
-use Rattle.model.specs.Checkpoint.{usedBy, word, long, words, wordAt, longAt, wordsAt, head, file, reasonOf, welcome, settleAll, restored}
+use Rattle.model.specs.Checkpoint.{usedBy, word, long, words, wordAt, longAt, wordsAt, head, file, reasonOf, welcome, settleAll, restored, queueDead, Empty, Dead}
 use Rattle.model.specs.Entry.{Recorder, recorder, noFlash, unless, guarded, clean, formatting, opening, read, encoding, restoring, write}
 use Rattle.model.specs.Entry.{collection, listCollection, thresholdCollection}
 use Rattle.model.specs.History.{Call, Format, Open, Read, Write, Collect, CollectList, CollectThreshold, Encode, Restore, run}
@@ -50,7 +50,7 @@ seen : Numbers → Row → Seen
 unfolding
     without pushFront insertBy sortBy splice total occ all every blank upTo good? view packed names soundb burn mayProgram mayErase formatFrom
     clearFrom findFrom find invalidate forget oldPage writeAt writePage sorted finishOf drain collectOf collect collectMore collectList
-    collectThreshold usedBy word long words wordAt longAt wordsAt head file reasonOf welcome settleAll restored unless guarded clean formatting
+    collectThreshold usedBy word long words wordAt longAt wordsAt head file reasonOf welcome settleAll restored queueDead unless guarded clean formatting
     opening read encoding restoring write collection listCollection thresholdCollection plus add among powers low remainder bitsOf
     bits digit valueOf dividend crc32
 seen N r = see N (r .device) (r .bad) (r .calls) (r .start)
@@ -127,7 +127,10 @@ abbrev save : Geometry → Call
 save G = save-into (replicate 66 9) G
 
 abbrev load : (Geometry → List ℕ) → Geometry → Call
-load b G = Restore (b G) (zeros (pages G) ∷ [])
+load b G = Restore Empty (b G) (zeros (pages G) ∷ [])
+
+abbrev loadDead : (Geometry → List ℕ) → Geometry → Call
+loadDead b G = Restore Dead (b G) (zeros (pages G) ∷ [])
 
 abbrev formats : Geometry → Call
 formats G = Format
@@ -343,6 +346,20 @@ table =
     ∷ new A (page 0 1 ∷ load (saved 1 (three none 2 none) (two 3 1)) ∷ []) (moved 4 ∷ refused 9 ∷ []) started
     ∷ new A (page 0 1 ∷ load (saved 2 (three none 2 none) (two 3 1)) ∷ []) (moved 4 ∷ refused 8 ∷ []) started
     ∷ new A (page 0 1 ∷ load (spoiled 2 (three none 2 none) (two 3 1)) ∷ []) (moved 4 ∷ refused 7 ∷ []) started
+    -- 02, M-109: "each segment with free count 0 and a list shorter than p on the queue, ascending, flags set"
+    ∷ new A3
+    (loadDead (saved 2 (three 0 none 4) (three 0 0 0)) ∷ [])
+    (moved 0 ∷ [])
+    (mem
+    (tables (three 0 none 4) (three 0 0 0) (three 1 0 1) (six 1 1 1 1 1 1) (six 0 0 0 0 2 0) (three 1 0 1) (three 0 1 2) (three 1 1 1) 2 3)
+    (flash (fill (six 255 255 255 255 255 255)) (six 0 0 0 0 0 0) (three 0 0 0) endless))
+    -- not one that is full and live, nor one with free pages
+    ∷ new A3
+    (loadDead (saved 0 (three 2 3 0) (three 0 0 2)) ∷ [])
+    (moved 0 ∷ [])
+    (mem
+    (tables (three 2 3 0) (three 0 0 2) (three 1 2 0) (six 1 1 1 1 0 0) (six 2 0 0 1 0 0) (three 1 2 0) (three 0 0 0) (three 1 0 0) 0 1)
+    (flash (fill (six 255 255 255 255 255 255)) (six 0 0 0 0 0 0) (three 0 0 0) endless))
     -- E10 checkpoint of A: 64 bytes; the buffer's two beyond stay
     ∷ new A
     (save ∷ [])

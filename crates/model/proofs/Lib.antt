@@ -34,6 +34,7 @@ pub mod Inner
 pub mod Base
 pub mod Restore
 pub mod Sealed
+pub mod Requeue
 -- entries
 pub mod Guard
 pub mod Outcome

@@ -19,6 +19,7 @@ use Rattle.model.specs.PageWrite.{whole, oldPage, stored, spent, writeAt
 use Rattle.model.specs.PageGc.{victim, taken, copyAnswer, cleared, finishOf, lastOf, copyOne}
 use Rattle.model.specs.PageGc.{drain, collectOf, collect, collectMore, collectList, collectThreshold}
 use Rattle.model.specs.Entry.{Recorder, Lent, lent, Outcome, refused, tablesOf, stateOf, back, flashFits, allFits, pageScratch, seenScratch}
+use Rattle.model.specs.Checkpoint.{Queueing}
 use Rattle.model.specs.Entry.{formatting, opening, read, write, collecting, collection, listCollection, thresholdCollection, encoding, restoring}
 use Rattle.model.specs.History.{Call, Format, Open, Read, Write, Collect, CollectList, CollectThreshold, Encode, Restore}
 use Rattle.model.specs.History.{run, after, Begins, IsRefused, InService, delivered, called, lent-fuse, AtProgramming, OnlyFuse}
@@ -327,7 +328,7 @@ module _ (G : Geometry) (bad : List ℕ) where
       collecting-orderly (lent r [] s) _ (λ K S F. collected-threshold G K bad t m _ S F) (λ K S F. threshold-inners G K bad t m _ S F)
       (λ K S F H. threshold-only-fuse G K bad t m _ S F H)
   call-orderly (Encode b s) r n = encoding-orderly (lent r b s)
-  call-orderly (Restore b s) r n = absurd (n tt)
+  call-orderly (Restore q b s) r n = absurd (n tt)
 
   -- ---- in service
 
@@ -341,7 +342,7 @@ module _ (G : Geometry) (bad : List ℕ) where
   called-ordered c r =
       by-kind (λ c. (Begins c → IsRefused (run G bad c r .answer)) → Ordered G (stateIn G r) → Ordered G (stateIn G (after G bad c r)))
       (λ k H. stayed-ordered (lent r [] []) _ _ (k tt) (opened-or G (lent r [] [])) H)
-      (λ b s k H. stayed-ordered (lent r [] s) _ _ (k tt) (restored-or G b (lent r [] s)) H)
+      (λ q b s k H. stayed-ordered (lent r [] s) _ _ (k tt) (restored-or G q b (lent r [] s)) H)
       (λ c n k H. call-orderly c r n .ordered H)
       c
 
@@ -351,9 +352,9 @@ module _ (G : Geometry) where
   unfolding opening
   opening-only-fuse x = guarded-by (λ o. OnlyFuse (o .answer) (o .left .unit .flash)) _ _ _ _ x _ (λ z. absurd z) (λ z. absurd z) (λ _ _ _ _. tt)
 
-  restoring-only-fuse : (b : List ℕ) (x : Lent) → OnlyFuse (restoring G b x .answer) (restoring G b x .left .unit .flash)
+  restoring-only-fuse : (q : Queueing) (b : List ℕ) (x : Lent) → OnlyFuse (restoring G q b x .answer) (restoring G q b x .left .unit .flash)
   unfolding restoring
-  restoring-only-fuse b x =
+  restoring-only-fuse q b x =
       guarded-by (λ o. OnlyFuse (o .answer) (o .left .unit .flash)) _ _ _ _ x _ (λ z. absurd z) (λ z. absurd z)
       (λ _ _ _ _. unless-by (λ o. OnlyFuse (o .answer) (o .left .unit .flash)) _ _ x _ (λ z. absurd z) (λ _. tt))
 
@@ -365,6 +366,6 @@ module _ (G : Geometry) where
   -- "no call is ever refused for this": in service a call that is refused at a programming is refused because the fuse is out
   pub never-for-order : {r : Recorder} → InService G r → (bad : List ℕ) (c : Call) → OnlyFuse (run G bad c r .answer) (after G bad c r .flash)
   never-for-order {r} h bad c =
-      by-kind (λ c. OnlyFuse (run G bad c r .answer) (after G bad c r .flash)) (opening-only-fuse (lent r [] [])) (λ b s. restoring-only-fuse b (lent r [] s))
+      by-kind (λ c. OnlyFuse (run G bad c r .answer) (after G bad c r .flash)) (opening-only-fuse (lent r [] [])) (λ q b s. restoring-only-fuse q b (lent r [] s))
       (λ c n. call-orderly G bad c r n .only (in-service h))
       c

@@ -7,7 +7,9 @@ use lib.ListN.{length, take, drop, set, replicate}
 use Rattle.crc32.specs.Crc32.{crc32}
 use Rattle.model.specs.Lists.{occ, upTo, firstNot}
 use Rattle.model.specs.Numbers.{Geometry, empty, segOf, pageOf}
-use Rattle.model.specs.Tables.{Tables, tables, at, setValid, pages}
+use Rattle.model.specs.Tables.{Tables, tables, at, setValid, setQueue, setFlags, setQueued, pages}
+pub use Rattle.model.specs.declared.Queueing.{Queueing}
+pub use Rattle.model.specs.declared.Queueing.the-variants.{Empty, Dead}
 use Rattle.model.specs.PageMap.{place}
 
 -- use marks by the free counts: "Used pages of a segment are its first ones"
@@ -42,6 +44,10 @@ magic = 0x50465443
 
 abbrev pub version : ℕ
 version = 1
+
+-- t with the queue and the flags of t′
+abbrev pub withQueue : Tables → Tables → Tables
+withQueue t′ t = setQueue (t′ .queue) (setQueued (t′ .queued) (setFlags (t′ .flags) t))
 
 module _ (G : Geometry) where
   -- nothing mapped, these free counts and this allocation segment
@@ -129,3 +135,29 @@ module _ (G : Geometry) where
 
   abbrev pub restoredFrom : List ℕ → Tables
   restoredFrom b = restored (mapOf b) (freeOf b) (allocOf b)
+
+  -- 02, M-109: "each segment with free count 0 and a list shorter than p"
+  abbrev pub dead? : ℕ → Tables → Bool
+  dead? g t = eqb (at (t .free) g) 0 && ltb (at (t .lens) g) G.p
+
+  -- segment g behind those that are queued, its flag set
+  abbrev pub queueLast : ℕ → Tables → Tables
+  queueLast g t = setQueue (set (t .queue) (t .queued) g) (setQueued (t .queued + 1) (setFlags (set (t .flags) g 1) t))
+
+  -- ".. on the queue, ascending, flags set": of k segments from g up
+  unfoldable pub queueDead : ℕ → ℕ → Tables → Tables
+  queueDead zero g t = t
+  queueDead (suc k) g t = queueDead k (suc g) (cond (dead? g t) (queueLast g t) t)
+
+  -- the same segments as a list, for the theorems: of k segments from g up
+  unfoldable pub deadOnes : ℕ → ℕ → Tables → List ℕ
+  deadOnes zero g t = []
+  deadOnes (suc k) g t = cond (dead? g t) (g ∷ deadOnes k (suc g) t) (deadOnes k (suc g) t)
+
+  -- "The old empty queue remains under a named choice."
+  abbrev pub requeued : Queueing → Tables → Tables
+  requeued Empty t = t
+  requeued Dead t = queueDead G.n 0 t
+
+  abbrev pub restoredBy : Queueing → List ℕ → Tables
+  restoredBy q b = requeued q (restoredFrom b)

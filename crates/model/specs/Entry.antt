@@ -14,7 +14,7 @@ use Rattle.model.specs.Sound.{soundb}
 use Rattle.model.specs.Device.{Flash, flash, Op, State, state, Out, formatFrom}
 use Rattle.model.specs.PageWrite.{whole, writePage}
 use Rattle.model.specs.PageGc.{collect, collectList, collectThreshold}
-use Rattle.model.specs.Checkpoint.{opened, sealed, fileSize, reasonOf, restoredFrom}
+use Rattle.model.specs.Checkpoint.{Queueing, opened, sealed, fileSize, reasonOf, restoredBy}
 
 -- what a unit keeps from call to call: the words and use marks of its tables, and its flash
 pub record Recorder : Type 0 where
@@ -151,9 +151,9 @@ module _ (G : Geometry) where
 
   -- Lent: the file b, words, use marks; scratch: taken marks.
   -- "Lent tables of wrong size get 22 first." "Any reason leaves tables and flash unchanged." "success answers 0"
-  unfoldable pub restoring : List ℕ → Lent → Outcome
-  restoring b x =
-      let t = restoredFrom G b in
+  unfoldable pub restoring : Queueing → List ℕ → Lent → Outcome
+  restoring q b x =
+      let t = restoredBy G q b in
       let r = reasonOf G b in
       guarded (every (good? G ∷ tablesFit x ∷ clean (pages G ∷ []) (x .scratch) ∷ [])) true true true x
       (unless (eqb r 0) (Reason r) x

@@ -10,7 +10,7 @@ use Rattle.model.specs.Causes.{Kind, in-tests, in-read, in-write, in-cop
 use Rattle.model.specs.Tables.{view, packed, pages}
 use Rattle.model.specs.Device.{Flash, flash, formattedFlash, Op, Program, EraseSeg, state, perform}
 use Rattle.model.specs.PageWrite.{Content, content}
-use Rattle.model.specs.Checkpoint.{fresh}
+use Rattle.model.specs.Checkpoint.{Queueing, fresh}
 use Rattle.model.specs.Entry.{Recorder, recorder, lent, Outcome, formatting, opening, read, write, collection, listCollection, thresholdCollection, encoding, restoring}
 
 -- a public call: what is handed to it beside the recorder, its own buffer and scratch included
@@ -23,7 +23,7 @@ pub data Call : Type 0 where
   CollectList : (m : ℕ) (scratch : List (List ℕ)) → Call
   CollectThreshold : (threshold m : ℕ) (scratch : List (List ℕ)) → Call
   Encode : (buffer : List ℕ) (scratch : List (List ℕ)) → Call
-  Restore : (b : List ℕ) (scratch : List (List ℕ)) → Call
+  Restore : (q : Queueing) (b : List ℕ) (scratch : List (List ℕ)) → Call
 
 -- the recorder with another fuse lent
 abbrev pub lit : ℕ → Recorder → Recorder
@@ -39,7 +39,7 @@ module _ (G : Geometry) (bad : List ℕ) where
   run (CollectList m s) r = listCollection G bad m (lent r [] s)
   run (CollectThreshold t m s) r = thresholdCollection G bad t m (lent r [] s)
   run (Encode b s) r = encoding G (lent r b s)
-  run (Restore b s) r = restoring G b (lent r [] s)
+  run (Restore q b s) r = restoring G q b (lent r [] s)
 
   -- the recorder after a call
   abbrev pub after : Call → Recorder → Recorder
@@ -61,8 +61,8 @@ mapIn G r = view G (r .words) (r .used) .map
 -- an opening or a restore makes tables of whatever was lent; then come calls, with any fuse
 pub data Reached (G : Geometry) (bad : List ℕ) : Recorder → Type 0 where
   by-opening : (r : Recorder) → run G bad Open r .answer ≡ Moved 0 → Reached G bad (after G bad Open r)
-  by-restoring : (r : Recorder) (b : List ℕ) (s : List (List ℕ)) → run G bad (Restore b s) r .answer ≡ Moved 0
-      → Reached G bad (after G bad (Restore b s) r)
+  by-restoring : (r : Recorder) (q : Queueing) (b : List ℕ) (s : List (List ℕ)) → run G bad (Restore q b s) r .answer ≡ Moved 0
+      → Reached G bad (after G bad (Restore q b s) r)
   called : {r : Recorder} → Reached G bad r → (c : Call) → Reached G bad (after G bad c r)
   lent-fuse : {r : Recorder} → Reached G bad r → (f : ℕ) → Reached G bad (lit f r)
 
@@ -71,7 +71,7 @@ pub data Reached (G : Geometry) (bad : List ℕ) : Recorder → Type 0 where
 -- an opening and a restore begin anew; no other call does
 abbrev pub Begins : Call → Type 0
 Begins Open = Unit {0}
-Begins (Restore b s) = Unit {0}
+Begins (Restore q b s) = Unit {0}
 Begins Format = ⊥
 Begins (Read sector len o s) = ⊥
 Begins (Write sector len d s) = ⊥
@@ -135,7 +135,7 @@ Spares G M (EraseSeg g c ∷ os) = Elsewhere G M g × Spares G M os
 -- "no opening, no restore of another" than the file: a refused one changes nothing, and is none
 pub record Keeps (file : List ℕ) (c : Call) (a : Answer) : Type 0 where
   pub no-opening : c ≡ Open → IsRefused a
-  pub no-other : (b : List ℕ) (s : List (List ℕ)) → c ≡ Restore b s → (b ≡ file) ⊎ IsRefused a
+  pub no-other : (q : Queueing) (b : List ℕ) (s : List (List ℕ)) → c ≡ Restore q b s → (b ≡ file) ⊎ IsRefused a
 
 -- running, or the power is gone and with it what the tables held
 pub data Phase : Type 0 where
@@ -163,11 +163,11 @@ pub data Since (G : Geometry) (bad : List ℕ) (r₀ : Recorder) (file : List �
       → Spares G (mapIn G r₀) (take (suc i) (opsOf G bad c r))
       → Cut G i (opsOf G bad c r) (r .flash) f
       → (w u : List ℕ) → Since G bad r₀ file lost (recorder w u f)
-  regained : {r : Recorder} → Since G bad r₀ file lost r → (s : List (List ℕ))
-      → run G bad (Restore file s) r .answer ≡ Moved 0
-      → Since G bad r₀ file running (after G bad (Restore file s) r)
+  regained : {r : Recorder} → Since G bad r₀ file lost r → (q : Queueing) (s : List (List ℕ))
+      → run G bad (Restore q file s) r .answer ≡ Moved 0
+      → Since G bad r₀ file running (after G bad (Restore q file s) r)
 
 -- "restoring it over the flash as it stands gives each logical page exactly what it held when the checkpoint was taken, nothing included"
-pub record GivesBack (G : Geometry) (bad : List ℕ) (r₀ : Recorder) (file : List ℕ) (r : Recorder) : Type 0 where
-  pub answer : run G bad (Restore file (zeros (pages G) ∷ [])) r .answer ≡ Moved 0
-  pub contents : (l : ℕ) → contentOf G (after G bad (Restore file (zeros (pages G) ∷ [])) r) l ≡ contentOf G r₀ l
+pub record GivesBack (G : Geometry) (bad : List ℕ) (r₀ : Recorder) (file : List ℕ) (q : Queueing) (r : Recorder) : Type 0 where
+  pub answer : run G bad (Restore q file (zeros (pages G) ∷ [])) r .answer ≡ Moved 0
+  pub contents : (l : ℕ) → contentOf G (after G bad (Restore q file (zeros (pages G) ∷ [])) r) l ≡ contentOf G r₀ l

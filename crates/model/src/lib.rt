@@ -31,6 +31,14 @@ pub enum Numbers {
     New,
 }
 
+// The choice of the queue after a restore of a version 1 file (02, M-109).
+pub enum Queueing {
+    // 01's: no segment is queued.
+    Empty,
+    // Each segment with free count 0 and a list shorter than p is queued.
+    Dead,
+}
+
 // Why a call is refused. `number` of the definitions gives for each the number of document 01, or of 02 under the new choice.
 pub enum Cause {
     // Geometry, a lent size, the logical page, a page overrun, a checkpoint buffer too short.

@@ -1,6 +1,6 @@
 -- What the definitions of a trace say, case by case.
 use Prim.Native.Nat.{ℕ, zero, suc, _+_, _-_, _*_, _<_, _≤_}
-use mathlib.Core.Path.{_≡_}
+use mathlib.Core.Path.{_≡_, sym, ap}
 use mathlib.Core.Logic.{_≢_}
 use mathlib.Core.Bool.{Bool, true, false, _&&_}
 use mathlib.Core.List.{List}
@@ -15,7 +15,7 @@ use Rattle.model.specs.Tables.{pages}
 use Rattle.numbers.specs.declared.Reading.{Reading}
 use Rattle.numbers.specs.declared.Reading.the-variants.{Number, Malformed}
 use Rattle.numbers.specs.Groups.{number}
-use Rattle.records.specs.Trace.{Ready, Values, Bads, Marked, Short, Write, Read, Collect, CollectList, Checkpoint, Restore, Found, Bad, after, small?, valued, marking, writeRecord, readRecord, listRecord, recordOf}
+use Rattle.records.specs.Trace.{Ready, Values, Bads, Marked, Short, Write, Read, CollectList, Found, Bad, after, small?, valued, marking, writeRecord, readRecord, listRecord, recordOf}
 
 -- what comes after a reading, once the reading is known
 pub after-bad : {A : Type 0} (r : Reading) (bad : A) (f : ℕ → ℕ → A) → r ≡ Malformed → after r bad f ≡ bad
@@ -111,29 +111,8 @@ module _ (xs : List ℕ) (at : ℕ) {sector a : ℕ} (e : number xs at ≡ Numbe
 
 -- a record by its number
 module _ (xs : List ℕ) (at : ℕ) where
-  pub record-0 : (kind : ℕ) → kind ≡ 0 → recordOf xs kind at ≡ writeRecord xs at
-  unfolding recordOf
-  record-0 kind e = rw e
-
-  pub record-1 : (kind : ℕ) → kind ≡ 1 → recordOf xs kind at ≡ readRecord xs at
-  unfolding recordOf
-  record-1 kind e = rw e
-
-  pub record-2 : (kind : ℕ) → kind ≡ 2 → recordOf xs kind at ≡ Found Collect at
-  unfolding recordOf
-  record-2 kind e = rw e
-
-  pub record-3 : (kind : ℕ) → kind ≡ 3 → recordOf xs kind at ≡ listRecord xs at
-  unfolding recordOf
-  record-3 kind e = rw e
-
-  pub record-4 : (kind : ℕ) → kind ≡ 4 → recordOf xs kind at ≡ Found Checkpoint at
-  unfolding recordOf
-  record-4 kind e = rw e
-
-  pub record-5 : (kind : ℕ) → kind ≡ 5 → recordOf xs kind at ≡ Found Restore at
-  unfolding recordOf
-  record-5 kind e = rw e
+  pub of-kind : {kind k : ℕ} → kind ≡ k → recordOf xs k at ≡ recordOf xs kind at
+  of-kind e = ap (λ k. recordOf xs k at) (sym e)
 
   pub record-unknown
       : (kind : ℕ)
@@ -143,10 +122,11 @@ module _ (xs : List ℕ) (at : ℕ) where
       → kind ≢ 3
       → kind ≢ 4
       → kind ≢ 5
+      → kind ≢ 6
       → recordOf xs kind at ≡ Bad
   unfolding recordOf
-  record-unknown kind n₀ n₁ n₂ n₃ n₄ n₅ =
-      rw (ne-eqb kind 0 n₀, ne-eqb kind 1 n₁, ne-eqb kind 2 n₂, ne-eqb kind 3 n₃, ne-eqb kind 4 n₄, ne-eqb kind 5 n₅)
+  record-unknown kind n₀ n₁ n₂ n₃ n₄ n₅ n₆ =
+      rw (ne-eqb kind 0 n₀, ne-eqb kind 1 n₁, ne-eqb kind 2 n₂, ne-eqb kind 3 n₃, ne-eqb kind 4 n₄, ne-eqb kind 5 n₅, ne-eqb kind 6 n₆)
 
 -- the bad segments, from any of them
 module _ (xs : List ℕ) (n at : ℕ) (inside : Bool) (bad : List ℕ) where

@@ -62,4 +62,5 @@ module _ (xs : List ℕ) where
       (tested at (eqb kind 2) _ _ (λ _. (h, tt))
       (tested at (eqb kind 3) _ _ (λ _. sooner at a (listRecord xs a) h (list-placed a))
       (tested at (eqb kind 4) _ _ (λ _. (h, tt))
-      (tested at (eqb kind 5) _ _ (λ _. (h, tt)) tt)))))
+      (tested at (eqb kind 5) _ _ (λ _. (h, tt))
+      (tested at (eqb kind 6) _ _ (λ _. (h, tt)) tt))))))

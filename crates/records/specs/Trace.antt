@@ -7,6 +7,7 @@ use lib.ListN.{length, set}
 use Rattle.model.specs.declared.Geometry.{Geometry}
 use Rattle.model.specs.Numbers.{good?, geometry}
 use Rattle.model.specs.Tables.{pages}
+use Rattle.model.specs.declared.Queueing.the-variants.{Empty, Dead}
 use Rattle.numbers.specs.declared.Reading.{Reading}
 use Rattle.numbers.specs.declared.Reading.the-variants.{Number, Malformed}
 use Rattle.numbers.specs.Groups.{number}
@@ -71,7 +72,8 @@ module _ (xs : List ℕ) where
   unfoldable pub listRecord : ℕ → Next
   listRecord at = after (number xs at) Bad λ m a. Found (CollectList m) a
 
-  -- "0 write …; 1 read …; 2 collect; 3 collect from list (m); 4 checkpoint; 5 restore"; any other number is "an unknown record"
+  -- "0 write …; 1 read …; 2 collect; 3 collect from list (m); 4 checkpoint; 5 restore"; 02, M-109: "record 5 … ask[s] for" the old empty queue "by name;
+  -- a new record 6 (also `s`) uses the new default"; any other number is "an unknown record"
   unfoldable pub recordOf : ℕ → ℕ → Next
   recordOf kind at =
       cond (eqb kind 0) (writeRecord at)
@@ -79,7 +81,8 @@ module _ (xs : List ℕ) where
       (cond (eqb kind 2) (Found Collect at)
       (cond (eqb kind 3) (listRecord at)
       (cond (eqb kind 4) (Found Checkpoint at)
-      (cond (eqb kind 5) (Found Restore at) Bad)))))
+      (cond (eqb kind 5) (Found (Restore Empty) at)
+      (cond (eqb kind 6) (Found (Restore Dead) at) Bad))))))
 
   -- the record at a place
   abbrev pub nextRecord : ℕ → Next
@@ -92,4 +95,4 @@ Within xs (Read sector len) = Unit {0}
 Within xs Collect = Unit {0}
 Within xs (CollectList m) = Unit {0}
 Within xs Checkpoint = Unit {0}
-Within xs Restore = Unit {0}
+Within xs (Restore q) = Unit {0}

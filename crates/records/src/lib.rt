@@ -4,6 +4,7 @@ ghost use mathlib.Core.Bool.{true};
 ghost use lib.ListN.{set};
 ghost use Rattle.records.specs.Trace.{marking, header, writeRecord, readRecord, listRecord, recordOf, nextRecord, small?, valued};
 use model::Geometry;
+use model::Queueing;
 use numbers::Reading;
 
 // What a header says: a geometry that the trace takes and the place of the first record, or why there is none.
@@ -26,7 +27,7 @@ pub enum Record {
     Collect,
     CollectList(usize),
     Checkpoint,
-    Restore,
+    Restore(Queueing),
 }
 
 // A record and the place after it.
@@ -168,7 +169,8 @@ fn record_of(xs: &[u8], kind: usize, at: usize) -> Next
         2 => Next::Found(Record::Collect, at),
         3 => list_record(xs, at),
         4 => Next::Found(Record::Checkpoint, at),
-        5 => Next::Found(Record::Restore, at),
+        5 => Next::Found(Record::Restore(Queueing::Empty), at),
+        6 => Next::Found(Record::Restore(Queueing::Dead), at),
         _ => Next::Bad,
     }
 }

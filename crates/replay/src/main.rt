@@ -7,6 +7,7 @@ ghost use Rattle.model.specs.Checkpoint.{long, words};
 ghost use Rattle.replay.specs.Lent.{everything};
 use model::Geometry;
 use model::Numbers;
+use model::Queueing;
 use numbers::Reading;
 use std::num::wrapping_add_u64;
 
@@ -14,7 +15,7 @@ use std::num::wrapping_add_u64;
 const ENDLESS: u64 = 18446744073709551615;
 
 // The steps that are no call. The nine calls are 4 format, 5 open, 6 read, 7 write, 8 collect, 9 from the list, 10 with a threshold,
-// 11 encode, 12 restore; 13 to 16 are 7 to 10 in the new numbers.
+// 11 encode, 12 restore; 13 to 16 are 7 to 10 in the new numbers, 17 is 12 with the dead queued.
 const END: usize = 0;
 
 const LENGTH: usize = 1;
@@ -25,7 +26,9 @@ const FUSE: usize = 3;
 
 const LAST_OLD: usize = 12;
 
-const LAST_CALL: usize = 16;
+const LAST_TOLD: usize = 16;
+
+const LAST_CALL: usize = 17;
 
 // The place after what was read.
 enum Place {
@@ -229,8 +232,19 @@ fn numbers_in(op: usize) -> Numbers {
     Numbers::Old
 }
 
-// The step that makes the same call in the old numbers.
+// The queue that a step's restore chooses.
+fn queueing_in(op: usize) -> Queueing {
+    if LAST_TOLD < op {
+        return Queueing::Dead;
+    }
+    Queueing::Empty
+}
+
+// The step that makes the same call with the old choices.
 fn in_old(op: usize) -> usize {
+    if LAST_TOLD < op {
+        return op - 5;
+    }
     if LAST_OLD < op {
         return op - 6;
     }
@@ -306,10 +320,11 @@ fn gather(
     )
 }
 
-// The call of steps 4 to 12, in these numbers. The buffer is a write's bytes, a read's room, an encoding's room and a restore's file.
+// The call of steps 4 to 12, with these choices. The buffer is a write's bytes, a read's room, an encoding's room and a restore's file.
 fn call(
     geo: Geometry,
     numbers: Numbers,
+    queueing: Queueing,
     op: usize,
     a: usize,
     b: usize,
@@ -347,7 +362,7 @@ fn call(
             seen,
         ),
         11 => ftl::encode(geo, tab, used, buffer, seen),
-        12 => ftl::restore(geo, buffer, tab, used, taken),
+        12 => ftl::restore(geo, queueing, buffer, tab, used, taken),
         _ => gather(
             geo,
             numbers,
@@ -388,6 +403,7 @@ fn called(
     let answer = call(
         geo,
         numbers_in(step.op),
+        queueing_in(step.op),
         in_old(step.op),
         step.a,
         step.b,

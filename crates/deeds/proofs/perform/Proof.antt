@@ -134,16 +134,19 @@ encoded-start c = encoded-start-2 c .before .before .before
 abbrev restored-call : tie.After-slice-known25 → tie.After-restore
 restored-call c = c .before .before .before .before
 
-abbrev restored-record : tie.After-restore → tie.After-enum-told3
-restored-record c = c .before .before .before .before
+abbrev restored-record-1 : tie.After-restore → tie.After-known-told4
+restored-record-1 c = c .before .before .before .before
 
-abbrev restored-start-1 : tie.After-enum-told3 → tie.After-slice-known5
+abbrev restored-record : tie.After-restore → tie.After-rec4
+restored-record c = restored-record-1 c .before
+
+abbrev restored-start-1 : tie.After-rec4 → tie.After-slice-known5
 restored-start-1 c = c .before .before .before .before
 
-abbrev restored-start-2 : tie.After-enum-told3 → tie.After-slice-known
+abbrev restored-start-2 : tie.After-rec4 → tie.After-slice-known
 restored-start-2 c = restored-start-1 c .before .before .before .before
 
-abbrev restored-start : tie.After-enum-told3 → tie.Start
+abbrev restored-start : tie.After-rec4 → tie.Start
 restored-start c = restored-start-2 c .before .before .before
 
 abbrev bytes-record-1 : tie.After-write-arg6 → tie.After-write-arg2
@@ -204,7 +207,7 @@ returns-6 c =
     let e = restored-record o in
     let s = restored-start e in
     let a = s .args in
-    performs (a .geo) (a .bad .now) (a .xs .now) (kept-at s) (e .enum-told3 .given .1) (o .restore .ok) (beside (flash-at s) (restoring-alone (a .geo) (flash-at s) (take (a .stored) (a .file .now)) (lent (recorder (a .tab .now) (a .used .now) noFlash) [] _)) (o .restore .ensures))
+    performs (a .geo) (a .bad .now) (a .xs .now) (kept-at s) (e .rec4 .given .1) (o .restore .ok) (beside (flash-at s) (restoring-alone (a .geo) (flash-at s) (e .rec4 .given .0 .0) (take (a .stored) (a .file .now)) (lent (recorder (a .tab .now) (a .used .now) noFlash) [] _)) (o .restore .ensures))
 
 -- ---- what the search finds, and the pieces put together
 
@@ -235,8 +238,8 @@ enum-told-2 c = search needs
 encode-requires : tie.Need-encode-requires
 encode-requires c κs = search needs
 
-enum-told-3 : tie.Need-enum-told-3
-enum-told-3 c = search needs
+enum-known-rec-4 : tie.Need-enum-known-rec-4
+enum-known-rec-4 c = search needs
 
 restore-requires : tie.Need-restore-requires
 restore-requires c κs = search needs
@@ -330,7 +333,7 @@ perform-spec =
     collect-list-requires
     enum-told-2
     encode-requires
-    enum-told-3
+    enum-known-rec-4
     restore-requires
     same-length
     same-length-2

@@ -60,10 +60,10 @@ start-5 c = c .before .before .before .before
 abbrev laid-6 : tie.After-slice-known7 → tie.After-put-answer5
 laid-6 c = c .before .before
 
-abbrev record-6 : tie.After-put-answer5 → tie.After-enum-told3
-record-6 c = c .before .before
+abbrev record-6 : tie.After-put-answer5 → tie.After-rec4
+record-6 c = c .before .before .before
 
-abbrev start-6 : tie.After-enum-told3 → tie.Start
+abbrev start-6 : tie.After-rec4 → tie.Start
 start-6 c = c .before .before .before .before
 
 returns : tie.Need-returns
@@ -106,7 +106,7 @@ returns-6 c =
     let o = laid-6 c in
     let e = record-6 o in
     let s = start-6 e in
-    laid-as (s .args .line .now) (answered 115 (s .args .r) (s .args .out .now) (s .fits .r) (e .enum-told3 .given .1) refl) (o .put-answer5 .ensures)
+    laid-as (s .args .line .now) (answered 115 (s .args .r) (s .args .out .now) (s .fits .r) (e .rec4 .given .1) refl) (o .put-answer5 .ensures)
 
 -- ---- what the search finds, and the pieces put together
 
@@ -143,8 +143,8 @@ enum-told-2 c = search needs
 put-answer-requires-4 : tie.Need-put-answer-requires-4
 put-answer-requires-4 c κs = search needs
 
-enum-told-3 : tie.Need-enum-told-3
-enum-told-3 c = search needs
+enum-known-rec-4 : tie.Need-enum-known-rec-4
+enum-known-rec-4 c = search needs
 
 put-answer-requires-5 : tie.Need-put-answer-requires-5
 put-answer-requires-5 c κs = search needs
@@ -182,7 +182,7 @@ put-line-spec =
     put-answer-requires-3
     enum-told-2
     put-answer-requires-4
-    enum-told-3
+    enum-known-rec-4
     put-answer-requires-5
     same-length
     returns

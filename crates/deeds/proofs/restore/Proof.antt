@@ -31,7 +31,7 @@ returns c =
     let o = call-at c in
     let k = least-at o in
     let a = start-at k .args in
-    restores (a .geo) (lent (recorder (a .tab .now) (a .used .now) noFlash) [] (zeros (pages (a .geo)) ∷ [])) (ap (λ j. take (j - 0) (a .file .now)) (k .least .ensures) ∙ take-least (a .stored) (a .file .now)) (o .restore .ok) (o .restore .ensures)
+    restores (a .geo) (a .queueing) (lent (recorder (a .tab .now) (a .used .now) noFlash) [] (zeros (pages (a .geo)) ∷ [])) (ap (λ j. take (j - 0) (a .file .now)) (k .least .ensures) ∙ take-least (a .stored) (a .file .now)) (o .restore .ok) (o .restore .ensures)
 
 -- ---- what the search finds, and the pieces put together
 

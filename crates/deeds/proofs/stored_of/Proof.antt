@@ -47,8 +47,8 @@ count-of-requires c κs = search needs
 encoded-requires : tie.Need-encoded-requires
 encoded-requires c κs = search needs
 
-enum-told-3 : tie.Need-enum-told-3
-enum-told-3 c = search needs
+enum-known-rec-4 : tie.Need-enum-known-rec-4
+enum-known-rec-4 c = search needs
 
 returns : tie.Need-returns
 returns c = search needs
@@ -76,7 +76,7 @@ stored-of-spec =
     enum-told-2
     count-of-requires
     encoded-requires
-    enum-told-3
+    enum-known-rec-4
     returns
     returns-2
     returns-3

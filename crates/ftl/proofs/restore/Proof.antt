@@ -12,13 +12,14 @@ use borrow.Author.Tests.{not-true, not-false}
 use Rattle.model.specs.Lists.{every, zeros}
 use Rattle.model.specs.Numbers.{good?}
 use Rattle.model.specs.Tables.{tabWords, pages}
+use Rattle.model.specs.Checkpoint.{requeued}
 use Rattle.model.specs.Entry.{Lent, lent, recorder, noFlash}
 use Rattle.model.proofs.Guard.{each, good-test, tables-test}
 use Rattle.model.proofs.Sealed.{reason-most}
 use Rattle.guard.proofs.Signed.{small}
 use Rattle.guard.proofs.Rows.{told}
 use Rattle.ftl.proofs.Guards.{clean-is}
-use Rattle.ftl.proofs.Files.{restoreTests, restoring-wrong, restoring-size, restoring-reason, restoring-done}
+use Rattle.ftl.proofs.Files.{restoreTests, restoring-wrong, restoring-size, restoring-reason, restoring-done, none-queued}
 use borrow.Author.Needs.{needs}
 use Rattle.ftl.proofs.restore.Statement.{statement}
 use Rattle.ftl.proofs.restore.Tie as tie
@@ -30,7 +31,7 @@ use Rattle.guard.proofs.restore_fits.Reads as restore-fits-reads
 use Rattle.guard.proofs.number.Reads as number-reads
 use Rattle.sound.proofs.good.Reads as good-reads
 
--- places: the entry, the geometry tested, the sizes tested, the reason, the tables restored
+-- places: the entry, the geometry tested, the sizes tested, the reason, the tables restored, the queue
 abbrev at-start-1 : tie.After-good2 → tie.After-shared-slice-known
 at-start-1 c = c .before .before .before .before
 
@@ -82,12 +83,18 @@ done-at-1 c = c .before .before .before .before
 abbrev done-at : tie.After-slice-known6 → tie.After-restore
 done-at c = (done-at-1 c) .before .before
 
+abbrev restored-at : tie.After-requeue-arg → tie.After-restore
+restored-at c = done-at (c .before)
+
+abbrev requeue-at : tie.After-slice-known7 → tie.After-requeue
+requeue-at c = c .before .before
+
 -- what is lent at entry
 abbrev lent-at : tie.Start → Lent
 lent-at s = lent (recorder (s .args .tab .now) (s .args .used .now) noFlash) [] (s .args .taken .now ∷ [])
 
 abbrev tests : tie.Start → List Bool
-tests s = restoreTests (s .args .geo) (s .args .file .now) (lent-at s)
+tests s = restoreTests (s .args .geo) (s .args .queueing) (s .args .file .now) (lent-at s)
 
 -- the geometry passed, and the sizes
 good : (c : tie.Else1) → good? (at-start (c .before) .args .geo) ≡ true
@@ -116,7 +123,7 @@ reason-small r = let a = sized (at-sized r) .args in omega (arith, r .reason .en
 returns : tie.Need-returns
 returns c =
     let s = at-start (wrong-at c) in
-    restoring-wrong (s .args .geo) (s .args .file .now) (lent-at s) (told (wrong-at c .good2 .ensures) (not-true _ (c .if1 .taken)))
+    restoring-wrong (s .args .geo) (s .args .queueing) (s .args .file .now) (lent-at s) (told (wrong-at c .good2 .ensures) (not-true _ (c .if1 .taken)))
 
 restore-fits-requires : tie.Need-restore-fits-requires
 restore-fits-requires c κs = good-test _ (good (test-at c))
@@ -124,7 +131,7 @@ restore-fits-requires c κs = good-test _ (good (test-at c))
 returns-2 : tie.Need-returns-2
 returns-2 c =
     let s = at-start (at-good (size-at c)) in
-    restoring-size (s .args .geo) (s .args .file .now) (lent-at s) (unfit c)
+    restoring-size (s .args .geo) (s .args .queueing) (s .args .file .now) (lent-at s) (unfit c)
 
 reason-requires : tie.Need-reason-requires
 reason-requires c κs = good-test _ (good (at-left (at-fits c)))
@@ -137,7 +144,7 @@ returns-3 c =
     let r = why-at (number-at c) in
     let e = at-sized r in
     let s = sized e in
-    restoring-reason (s .args .geo) (s .args .file .now) (lent-at s) (good (at-left (at-fits e))) (fit e)
+    restoring-reason (s .args .geo) (s .args .queueing) (s .args .file .now) (lent-at s) (good (at-left (at-fits e))) (fit e)
     (r .reason .result) _ (r .reason .ensures) (number-at c .if3 .taken)
     (toZ-ofZ w64 (c .number .result) (subst (SFits w64) (sym (c .number .ensures)) (small (r .reason .result) (reason-small r))) ∙ c .number .ensures)
 
@@ -147,15 +154,30 @@ restore-requires c κs =
     let e = at-sized r in
     (good-test _ (good (at-left (at-fits e))), (sizes e .0, sizes e .1, taken-clean e, sym (r .reason .ensures) ∙ restore-at c .if3 .left))
 
+requeue-requires : tie.Need-requeue-requires
+requeue-requires c κs =
+    let o = restored-at c in
+    let e = at-sized (at-why (at-none o)) in
+    let a = sized e .args in (
+      good-test _ (good (at-left (at-fits e))),
+      (
+        o .restore .kept .1 .1 .0 ∙ sizes e .0,
+        none-queued (a .geo) (a .file .now) (o .restore .last .1 .1 .0) (o .restore .last .1 .1 .1 .0) (o .restore .ensures .0),
+      ),
+    )
+
 returns-4 : tie.Need-returns-4
 returns-4 c =
-    let o = done-at c in
+    let q = requeue-at c in
+    let o = restored-at (q .before) in
     let r = at-why (at-none o) in
     let e = at-sized r in
     let s = sized e in
-    restoring-done (s .args .geo) (s .args .file .now) (lent-at s) (good (at-left (at-fits e))) (fit e) (sym (r .reason .ensures) ∙ at-none o .if3 .left)
-    (o .restore .last .1 .1 .0) (o .restore .last .1 .1 .1 .0) (o .restore .last .1 .1 .1 .1 .0 ∷ [])
-    (o .restore .kept .1 .1 .0 ∙ sizes e .0) (o .restore .ensures .0)
+    restoring-done (s .args .geo) (s .args .queueing) (s .args .file .now) (lent-at s) (good (at-left (at-fits e))) (fit e)
+    (sym (r .reason .ensures) ∙ at-none o .if3 .left)
+    (q .requeue .last .1 .1 .0) (o .restore .last .1 .1 .1 .0) (o .restore .last .1 .1 .1 .1 .0 ∷ [])
+    (q .requeue .kept .1 .1 .0 ∙ o .restore .kept .1 .1 .0 ∙ sizes e .0)
+    (q .requeue .ensures (o .restore .last .1 .1 .1 .0) ∙ ap (requeued (s .args .geo) (s .args .queueing)) (o .restore .ensures .0))
     (ap (λ (m : List ℕ). m ∷ []) (o .restore .ensures .1 ∙ sym (taken-clean e)))
 
 -- ---- what the search finds, and the pieces put together
@@ -208,6 +230,7 @@ restore-spec =
     same-length-6
     returns-3
     restore-requires
+    requeue-requires
     same-length-7
     same-length-8
     same-length-9

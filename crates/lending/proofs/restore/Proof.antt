@@ -35,7 +35,7 @@ returns c =
     let s = start-at o in
     let a = s .args in
     let small = s .pre in
-    does (λ s. restoring (a .geo) (a .file .now) (lent (recorder (a .tab .now) (a .used .now) noFlash) [] s))
+    does (λ s. restoring (a .geo) (a .queueing) (a .file .now) (lent (recorder (a .tab .now) (a .used .now) noFlash) [] s))
     (o .restore .ok)
     (one (cut 1024 (pages (a .geo)) (small .pages≤)))
     (o .restore .ensures)

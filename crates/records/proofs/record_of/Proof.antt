@@ -1,6 +1,7 @@
 -- `record_of` meets its contract, kind by kind.
 use mathlib.Core.Path.{sym, _∙_}
-use Rattle.records.proofs.Laws.{record-0, record-1, record-2, record-3, record-4, record-5, record-unknown}
+use Rattle.records.specs.Trace.{recordOf}
+use Rattle.records.proofs.Laws.{of-kind, record-unknown}
 use borrow.Author.Needs.{needs}
 use Rattle.records.proofs.record_of.Statement.{statement}
 use Rattle.records.proofs.record_of.Tie as tie
@@ -15,37 +16,47 @@ abbrev start : tie.After-shared-slice-known → tie.Start
 start c = c .before
 
 returns : tie.Need-returns
+unfolding recordOf
 returns c =
     let m = c .before in
     let a = start (m .before) .args in
-    c .write-record .ensures ∙ sym (record-0 (a .xs .now) (a .at) (a .kind) (m .match .keys1))
+    c .write-record .ensures ∙ of-kind (a .xs .now) (a .at) (m .match .keys1)
 
 returns-2 : tie.Need-returns-2
+unfolding recordOf
 returns-2 c =
     let m = c .before in
     let a = start (m .before) .args in
-    c .read-record .ensures ∙ sym (record-1 (a .xs .now) (a .at) (a .kind) (m .match .keys2))
+    c .read-record .ensures ∙ of-kind (a .xs .now) (a .at) (m .match .keys2)
 
 returns-3 : tie.Need-returns-3
-returns-3 c = let a = start (c .before) .args in sym (record-2 (a .xs .now) (a .at) (a .kind) (c .match .keys3))
+unfolding recordOf
+returns-3 c = let a = start (c .before) .args in of-kind (a .xs .now) (a .at) (c .match .keys3)
 
 returns-4 : tie.Need-returns-4
+unfolding recordOf
 returns-4 c =
     let m = c .before in
     let a = start (m .before) .args in
-    c .list-record .ensures ∙ sym (record-3 (a .xs .now) (a .at) (a .kind) (m .match .keys4))
+    c .list-record .ensures ∙ of-kind (a .xs .now) (a .at) (m .match .keys4)
 
 returns-5 : tie.Need-returns-5
-returns-5 c = let a = start (c .before) .args in sym (record-4 (a .xs .now) (a .at) (a .kind) (c .match .keys5))
+unfolding recordOf
+returns-5 c = let a = start (c .before) .args in of-kind (a .xs .now) (a .at) (c .match .keys5)
 
 returns-6 : tie.Need-returns-6
-returns-6 c = let a = start (c .before) .args in sym (record-5 (a .xs .now) (a .at) (a .kind) (c .match .keys6))
+unfolding recordOf
+returns-6 c = let a = start (c .before) .args in of-kind (a .xs .now) (a .at) (c .match .keys6)
 
 returns-7 : tie.Need-returns-7
-returns-7 c =
+unfolding recordOf
+returns-7 c = let a = start (c .before) .args in of-kind (a .xs .now) (a .at) (c .match .keys7)
+
+returns-8 : tie.Need-returns-8
+returns-8 c =
     let a = start (c .before) .args in
-    let ((((((_, not-0), not-1), not-2), not-3), not-4), not-5) = c .match .rest in
-    sym (record-unknown (a .xs .now) (a .at) (a .kind) not-0 not-1 not-2 not-3 not-4 not-5)
+    let (((((((_, not-0), not-1), not-2), not-3), not-4), not-5), not-6) = c .match .rest in
+    sym (record-unknown (a .xs .now) (a .at) (a .kind) not-0 not-1 not-2 not-3 not-4 not-5 not-6)
 
 -- ---- what the search finds, and the pieces put together
 
@@ -71,4 +82,5 @@ record-of-spec =
     returns-4
     returns-5
     returns-6
-    returns-7)
+    returns-7
+    returns-8)
