@@ -107,6 +107,11 @@ plainly full-told-as-14 'Cause::CopyNoRoom, Numbers::New) => 28' 'Cause::CopyNoR
 plainly room-told-as-device 'Cause::NoRoom => Cause::CopyNoRoom' 'Cause::NoRoom => Cause::CopyDevice'
 plainly device-told-as-room 'Cause::Device => Cause::CopyDevice' 'Cause::Device => Cause::CopyNoRoom'
 plainly erase-told-as-copy '(Cause::Device | Cause::Erase, _) => 5' '(Cause::Erase, Numbers::New) => 121, (Cause::Device | Cause::Erase, _) => 5'
+# Restores with the dead queued: 02, M-109
+plainly live-queued '(tables.lists[g].len() as u64) < geo.p' '(tables.lists[g].len() as u64) <= geo.p'
+plainly one-free-queued 'if tables.free[g] == 0 && (tables.lists' 'if tables.free[g] <= 1 && (tables.lists'
+plainly dead-descending 'tables.queue.push(g as u32);' 'tables.queue.insert(0, g as u32);'
+plainly dead-unflagged 'tables.flags[g] = 1;' ''
 
 echo "mutants: $found found, $missed missed"
 [ "$missed" -eq 0 ] && [ "$found" -gt 0 ]

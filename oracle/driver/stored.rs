@@ -41,7 +41,7 @@ const PARTS: [Part; 11] = [Tab, Used, Bytes, Marks, Counts, Bad, Buffer, Page, S
 /// The room that the program has for each.
 const ROOM: [usize; 11] = [2048, 512, 16384, 512, 256, 256, 4096, 512, 512, 256, 512];
 
-/// The nine calls, in the file's numbering from 4 on.
+/// The nine calls, in the file's numbering from 4 on, and the restore that queues the dead.
 #[derive(Clone, Copy, PartialEq, Eq, Debug)]
 enum Call {
     Format,
@@ -53,12 +53,13 @@ enum Call {
     Threshold(u64, u64),
     Encode,
     Restore,
+    RestoreDead,
 }
 
-/// The nine, and then the four that have new numbers, in these.
-const NAMES: [&str; 13] = [
+/// The nine, then the four that have new numbers, in these, then the restore that queues the dead.
+const NAMES: [&str; 14] = [
     "format", "open", "read", "write", "collect", "collect_list", "collect_threshold", "encode", "restore",
-    "write_told", "collect_told", "collect_list_told", "collect_threshold_told",
+    "write_told", "collect_told", "collect_list_told", "collect_threshold_told", "restore_dead",
 ];
 
 impl Call {
@@ -73,13 +74,14 @@ impl Call {
             Call::List(m) => (5, m, 0),
             Call::Threshold(threshold, m) => (6, threshold, m),
             Call::Encode => (7, 0, 0),
-            Call::Restore => (8, 0, 0),
+            Call::Restore | Call::RestoreDead => (8, 0, 0),
         }
     }
 
     /// The call's place in `NAMES`, by the numbers that it answers in.
     fn kind(self, numbers: Numbers) -> usize {
         match self {
+            Call::RestoreDead => 13,
             Call::Write(..) | Call::Collect | Call::List(_) | Call::Threshold(..) if numbers == Numbers::New => {
                 self.parts().0 + 6
             }
@@ -98,7 +100,7 @@ impl Call {
                 &[Tab, Used, Bytes, Marks, Counts, Bad, Page, Seen, Order]
             }
             Call::Encode => &[Tab, Used, Seen],
-            Call::Restore => &[Tab, Used, Taken],
+            Call::Restore | Call::RestoreDead => &[Tab, Used, Taken],
         }
     }
 }
@@ -118,7 +120,7 @@ struct Book {
     file: Vec<u8>,
     cases: usize,
     calls: usize,
-    /// Calls that an original made too; reading and formatting, which have none, are not counted.
+    /// Calls that an original made too; reading, formatting and queueing the dead, which have none, are not counted.
     beside: usize,
     answers: BTreeMap<(usize, i64), usize>,
 }
@@ -290,6 +292,7 @@ impl<'a> Case<'a> {
             Call::Threshold(threshold, m) => plain::collect_threshold(&geo, threshold, m, &mut lent),
             Call::Encode => plain::encode(&geo, &mut lent),
             Call::Restore => plain::restore(&geo, &mut lent),
+            Call::RestoreDead => plain::restore_dead(&geo, &mut lent),
         };
         let buffer = match call {
             Call::Read(..) => lent.out.clone(),
@@ -352,6 +355,7 @@ impl<'a> Case<'a> {
                 file.len() as i64
             }
             Call::Restore => rust.restore(&before),
+            Call::RestoreDead => rust.restore_dead(&before),
         }
     }
 
@@ -366,7 +370,7 @@ impl<'a> Case<'a> {
             let theirs = self.by_the_rust(call, before);
             assert!(theirs == old, "{call:?}: the Rust answers {theirs}, plain.rs {old}");
             self.same_state();
-            self.book.beside += !matches!(call, Call::Read(..) | Call::Format) as usize;
+            self.book.beside += !matches!(call, Call::Read(..) | Call::Format | Call::RestoreDead) as usize;
         }
         let ((_, a, b), kind, digest) = (call.parts(), call.kind(self.numbers), self.digest());
         self.put(&[4 + kind as u64, a, b, (answer < 0) as u64, answer.unsigned_abs(), digest as u64]);
@@ -463,12 +467,39 @@ impl<'a> Case<'a> {
         self.bytes(Buffer)[..plain::checkpoint_bytes(&self.geo)].to_vec()
     }
 
-    fn restore(&mut self, file: &[u8]) {
+    /// A kept checkpoint, by either restore.
+    fn restore(&mut self, call: Call, file: &[u8]) {
         let room = self.lens[Buffer as usize];
         self.length(Buffer, file.len());
         self.fill(Buffer, 0, file);
-        assert!(self.call(Call::Restore) == 0, "a kept checkpoint");
+        assert!(self.call(call) == 0, "a kept checkpoint");
         self.length(Buffer, room);
+    }
+
+    /// The segments that are queued, in their order.
+    fn queue(&self) -> Vec<u32> {
+        let queued = self.part(Tab)[self.at(5, 1)] as usize;
+        self.part(Tab)[self.at(3, 0)..][..queued].to_vec()
+    }
+
+    /// The file in the buffer becomes one of this map and these free counts.
+    fn by_hand(&mut self, map: &[u32], free: &[u32]) {
+        map.iter().chain(free).enumerate().for_each(|(i, &x)| self.file_word(44 + 4 * i, x));
+        self.seal();
+    }
+
+    /// The file in the buffer restored with the dead queued: just these.
+    fn queues(&mut self, dead: &[u32]) {
+        assert!(self.call(Call::RestoreDead) == 0 && self.queue() == dead, "queued {:?}, not {dead:?}", self.queue());
+        let flagged = |g: &u32| self.part(Tab)[self.at(4, *g as u64)] == 1;
+        assert!((0..self.geo.n as u32).filter(flagged).eq(dead.iter().copied()), "flags");
+    }
+
+    /// A call that erases just this segment.
+    fn erases(&mut self, call: Call, g: usize) {
+        let mut counts = self.part(Counts).to_vec();
+        counts[g] += 1;
+        assert!(self.call(call) >= 0 && self.part(Counts) == counts, "{call:?} does not take {g}");
     }
 
     /// A write of logical page 0 that the device refuses for its order alone, in the originals too.
@@ -859,7 +890,7 @@ fn orders(book: &mut Book, rng: &mut Rng) {
     case.seal();
     case.call(Call::Restore);
     case.page(0, 1);
-    case.restore(&none);
+    case.restore(Call::Restore, &none);
     case.out_of_order();
     case.end();
 
@@ -870,9 +901,9 @@ fn orders(book: &mut Book, rng: &mut Rng) {
         let first = case.kept();
         case.pages((1..geo.p).map(|_| 0));
         case.call(Call::Collect);
-        case.restore(&first);
+        case.restore(Call::Restore, &first);
         case.page(0, 2);
-        case.restore(&none);
+        case.restore(Call::Restore, &none);
         case.out_of_order();
         case.page(0, 3);
         case.churn(rng);
@@ -885,7 +916,7 @@ fn orders(book: &mut Book, rng: &mut Rng) {
         case.page(0, 1);
         case.set_fuse(ENDLESS);
         case.page(0, 2);
-        case.restore(&none);
+        case.restore(Call::Restore, &none);
         case.out_of_order();
         case.page(0, 3);
         case.churn(rng);
@@ -1162,11 +1193,283 @@ fn told_runs(book: &mut Book, rng: &mut Rng) {
     }
 }
 
+// ---------------------------------------------------------------- with the dead queued
+
+/// A map and free counts of a file, and the segments that are dead by it.
+type Dead = (&'static [u32], &'static [u32], &'static [u32]);
+
+/// Two segments of two pages: none, one or both are dead; one free page is enough to live, and so is a list of length 2;
+/// words that are dropped (repeats, segments from n on, pages not used) count for no list.
+const OF_TWO: [Dead; 15] = [
+    (&[EMPTY, EMPTY, EMPTY], &[2, 2], &[]),
+    (&[EMPTY, EMPTY, EMPTY], &[0, 0], &[0, 1]),
+    (&[2, 3, EMPTY], &[0, 0], &[0]),
+    (&[1, 0, EMPTY], &[0, 0], &[1]),
+    (&[1, 3, 0], &[0, 0], &[1]),
+    (&[3, 0, EMPTY], &[0, 0], &[0, 1]),
+    (&[0, EMPTY, EMPTY], &[1, 0], &[1]),
+    (&[0, 2, EMPTY], &[1, 1], &[]),
+    (&[EMPTY, EMPTY, EMPTY], &[1, 1], &[]),
+    (&[EMPTY, 2, 3], &[0, 1], &[0]),
+    (&[0, 0, EMPTY], &[0, 2], &[0]),
+    (&[0, 0, 1], &[0, 0], &[1]),
+    (&[3, 3, 3], &[0, 0], &[0, 1]),
+    (&[4, 0, 5], &[0, 2], &[0]),
+    (&[EMPTY, EMPTY, EMPTY], &[2, 0], &[1]),
+];
+
+/// Three of two pages; addresses of four, so that a word may name a page past p.
+const OF_THREE: [Dead; 7] = [
+    (&[EMPTY, EMPTY, EMPTY, EMPTY], &[0, 0, 0], &[0, 1, 2]),
+    (&[4, 5, EMPTY, EMPTY], &[0, 0, 0], &[0, 2]),
+    (&[0, 1, 8, 9], &[0, 0, 0], &[1]),
+    (&[0, 2, 8, 9], &[0, 2, 0], &[0]),
+    (&[0, 4, 8, 3], &[0, 0, 0], &[0, 1, 2]),
+    (&[0, 1, 8, 12], &[0, 1, 0], &[2]),
+    (&[8, EMPTY, 9, EMPTY], &[1, 0, 0], &[1]),
+];
+
+/// Four of one page: full and unmapped is dead.
+const OF_FOUR: [Dead; 4] = [
+    (&[EMPTY, EMPTY, EMPTY], &[0, 0, 0, 0], &[0, 1, 2, 3]),
+    (&[0, EMPTY, 3], &[0, 0, 1, 0], &[1]),
+    (&[2, 0, 3], &[0, 0, 0, 0], &[1]),
+    (&[1, 1, 4], &[1, 0, 0, 1], &[2]),
+];
+
+/// One segment, of two pages and of one.
+const OF_ONE: [Dead; 5] = [
+    (&[0, EMPTY], &[0], &[0]),
+    (&[1, 0], &[0], &[]),
+    (&[1, 1], &[0], &[0]),
+    (&[EMPTY, EMPTY], &[0], &[0]),
+    (&[0, EMPTY], &[1], &[]),
+];
+const OF_ONE_PAGE: [Dead; 3] = [(&[EMPTY], &[0], &[0]), (&[0], &[0], &[]), (&[EMPTY], &[1], &[])];
+
+/// Files made by hand, each over the tables that the one before and a collection left: queue and flags are the file's alone.
+/// Before every second the old restore comes, and queues nothing.
+fn dead_by_hand(book: &mut Book, _: &mut Rng) {
+    let all: [(Geometry, &[Dead]); 5] = [
+        (device_a(), &OF_TWO),
+        (geometry(3, 2, 3, 2, 4, 7), &OF_THREE),
+        (geometry(4, 1, 1, 0, 3, 9), &OF_FOUR),
+        (geometry(1, 2, 1, 1, 2, 9), &OF_ONE),
+        (geometry(1, 1, 1, 0, 1, 9), &OF_ONE_PAGE),
+    ];
+    for (geo, files) in all {
+        let mut case = Case::fresh(book, geo, &[]);
+        case.save();
+        for (i, (map, free, dead)) in files.iter().enumerate() {
+            case.by_hand(map, free);
+            if i % 2 == 1 {
+                assert!(case.call(Call::Restore) == 0 && case.queue().is_empty(), "the old restore");
+            }
+            case.queues(dead);
+            case.call([Call::List(2), Call::Collect, Call::Threshold(64, 1)][i % 3]);
+        }
+        case.end();
+    }
+}
+
+/// A fresh device's file queues nothing; nor does one that is written but not full.
+fn dead_of_fresh(book: &mut Book, _: &mut Rng) {
+    for geo in shapes() {
+        let mut case = Case::fresh(book, geo, &[]);
+        case.save();
+        case.queues(&[]);
+        case.length(Buffer, lengths(&geo)[Buffer as usize]);
+        case.pages((1..geo.p).map(|_| 0));
+        case.save();
+        case.queues(&[]);
+        case.end();
+    }
+}
+
+/// Each reason, 22 for each size and for dirty marks, over tables that have a queue: everything stays.
+fn dead_refused(book: &mut Book, rng: &mut Rng) {
+    for geo in shapes() {
+        let (size, free) = (plain::checkpoint_bytes(&geo), 44 + 4 * geo.e as usize);
+        let mut case = Case::fresh(book, geo, &[]);
+        case.churn(rng);
+        assert!(!case.queue().is_empty(), "a queue that must stay");
+        case.save();
+        let refused = |case: &mut Case, answer| assert!(case.call(Call::RestoreDead) == answer, "{answer}");
+        for (k, answer) in [(0, -1), (43, -1), (44, -6), (size - 1, -6), (size + 1, -6)] {
+            case.length(Buffer, k);
+            refused(&mut case, answer);
+        }
+        case.length(Buffer, size);
+        for (at, answer) in [(0, -2), (4, -3), (16, -4), (24, -4), (32, -5), (40, -7), (size - 1, -7)] {
+            let right = case.part(Buffer)[at];
+            case.poke(Buffer, at, right ^ 8);
+            refused(&mut case, answer);
+            case.poke(Buffer, at, right);
+        }
+        for (at, x, answer) in [(free, geo.p as u32 + 1, -9), (8, geo.n as u32, -8)] {
+            case.file_word(at, x);
+            case.seal();
+            refused(&mut case, answer);
+        }
+        for part in [Tab, Used, Taken] {
+            let right = case.lens[part as usize];
+            for k in [right - 1, right + 1] {
+                case.length(part, k);
+                refused(&mut case, -22);
+            }
+            case.length(part, right);
+        }
+        case.poke(Taken, 0, 1);
+        refused(&mut case, -22);
+        case.end();
+    }
+    for geo in wrong_geometries().into_iter().step_by(3) {
+        let mut case = Case::lent(book, geo, lengths(&device_a()));
+        assert!(case.call(Call::RestoreDead) == -22, "a wrong geometry");
+        case.end();
+    }
+}
+
+/// Over tables that are no tables, over a queue in another order, over the flags of segments that live by the file: all are
+/// forgotten.
+fn dead_over_others(book: &mut Book, rng: &mut Rng) {
+    for geo in [device_a(), geometry(3, 2, 3, 1, 4, 7)] {
+        let mut case = Case::fresh(book, geo, &[]);
+        case.pages([0, 1, 2, 0, 1].into_iter().take(geo.p as usize * geo.n as usize));
+        case.save();
+        for i in 0..plain::tab_words(&geo).min(20) {
+            case.poke(Tab, i, rng.next() as u32);
+        }
+        case.fill(Used, 0, &rng.bytes(plain::page_count(&geo)));
+        case.call(Call::RestoreDead);
+        case.call(Call::Encode);
+        case.call(Call::Collect);
+        case.end();
+    }
+    let mut case = Case::fresh(book, geometry(4, 2, 1, 1, 4, 9), &[]);
+    let none = case.kept();
+    case.pages([0, 1, 2, 3, 0, 2]);
+    assert!(case.queue() == [1, 0], "queued at the front");
+    let both = case.kept();
+    case.page(3, 1);
+    case.restore(Call::RestoreDead, &both);
+    assert!(case.queue() == [0, 1], "ascending");
+    case.restore(Call::RestoreDead, &none);
+    assert!(case.queue().is_empty(), "of the fresh file");
+    case.restore(Call::RestoreDead, &both);
+    case.save();
+    case.by_hand(&[0, 1, 2, 3], &[0, 0, 2, 2]);
+    case.queues(&[]);
+    case.end();
+}
+
+/// After it the least valid is taken first, among equals the lowest number; the rest stays in this order.
+fn dead_in_turn(book: &mut Book, _: &mut Rng) {
+    let geo = geometry(5, 2, 2, 1, 6, 9);
+    let (even, mixed) = ([EMPTY; 6], [0, 4, EMPTY, EMPTY, EMPTY, EMPTY]);
+    for (map, order) in [(even, [0, 1, 2, 3]), (mixed, [1, 3, 0, 2])] {
+        for call in [Call::Collect, Call::List(1), Call::Threshold(64, 1)] {
+            let mut case = Case::fresh(book, geo, &[]);
+            case.save();
+            case.by_hand(&map, &[0, 0, 0, 0, 2]);
+            case.queues(&[0, 1, 2, 3]);
+            order.iter().for_each(|&g| case.erases(call, g));
+            case.end();
+        }
+    }
+}
+
+/// E4: the collection is refused and its segment lost; saved and restored it is queued again. On E4's device there is still
+/// no room; where a fuse refused the copy, the next collection erases it.
+fn dead_again(book: &mut Book, _: &mut Rng) {
+    for numbers in [Numbers::Old, Numbers::New] {
+        let full = if numbers == Numbers::Old { -14 } else { -28 };
+        let mut case = Case::fresh(book, device_a(), &[]);
+        case.numbers = numbers;
+        case.pages([0, 1, 2, 0]);
+        assert!(case.call(Call::Collect) == full && case.call(Call::Collect) == 0, "E4 and E5");
+        case.save();
+        assert!(case.call(Call::Restore) == 0 && case.call(Call::Collect) == 0, "nothing queued");
+        case.queues(&[0]);
+        assert!(case.call(Call::Collect) == full && case.queue().is_empty(), "taken, without room");
+        case.end();
+    }
+    let [_, two, three, _, four] = shapes();
+    for geo in [two, three, four] {
+        let mut case = to_copy(book, geo, &[]);
+        case.set_fuse(0);
+        assert!(case.call(Call::Collect) == -121 && case.call(Call::Collect) == 0, "the fuse, then nothing queued");
+        case.set_fuse(ENDLESS);
+        case.save();
+        case.queues(&[0]);
+        case.erases(Call::Collect, 0);
+        case.end();
+    }
+}
+
+/// Worn-out and bad segments are queued too. A worn one is taken first and refused, and is queued at each restore again.
+fn dead_worn(book: &mut Book, _: &mut Rng) {
+    let geo = geometry(3, 2, 2, 1, 3, 0);
+    let mut case = Case::fresh(book, geo, &[]);
+    case.pages([0, 0, 0, 0]);
+    assert!(case.queue() == [1, 0] && case.call(Call::List(2)) == -5, "an erase at the limit");
+    case.save();
+    for _ in 0..2 {
+        case.queues(&[0, 1]);
+        assert!(case.call(Call::List(2)) == -5 && case.queue() == [1], "refused and off the queue");
+    }
+    case.end();
+    let mut case = Case::fresh(book, Geometry { limit: 9, ..geo }, &[1, 0, 255]);
+    case.save();
+    case.by_hand(&[EMPTY, 2, EMPTY], &[0, 0, 0]);
+    case.queues(&[0, 1, 2]);
+    case.erases(Call::Collect, 0);
+    case.erases(Call::List(1), 2);
+    case.end();
+}
+
+/// Any words and free counts on small devices, and on a large one.
+fn dead_crowded(book: &mut Book, rng: &mut Rng) {
+    let large = geometry(255, 2, 1, 8, 20, 3);
+    for (turn, geo) in shapes().into_iter().chain(shapes()).chain([large]).enumerate() {
+        let mut case = Case::fresh(book, geo, &[]);
+        case.save();
+        let (n, p) = (geo.n as usize, geo.p as usize);
+        let word = |rng: &mut Rng| ((rng.below(n + 1) << geo.w) + rng.below(p + 1)) as u32;
+        let map: Vec<u32> = (0..geo.e).map(|_| if rng.chance(4) { EMPTY } else { word(rng) }).collect();
+        let free: Vec<u32> = (0..n).map(|_| if rng.chance(3) { rng.below(p + 1) as u32 } else { 0 }).collect();
+        case.by_hand(&map, &free);
+        case.call(Call::RestoreDead);
+        case.call([Call::Collect, Call::List(2)][turn % 2]);
+        case.call(Call::Encode);
+        case.end();
+    }
+}
+
+/// Random runs that save, go on, and restore by either name.
+fn dead_runs(book: &mut Book, rng: &mut Rng) {
+    for _ in 0..15 {
+        let geo = random_geometry(rng);
+        let bad = random_bad(rng, geo.n);
+        let mut case = Case::fresh(book, geo, &bad);
+        case.numbers = rng.pick(&[Numbers::New, Numbers::Old]);
+        for _ in 0..3 {
+            case.churn(rng);
+            random_call(&mut case, rng);
+            let file = case.kept();
+            random_call(&mut case, rng);
+            case.restore(rng.pick(&[Call::RestoreDead, Call::RestoreDead, Call::Restore]), &file);
+            case.call(rng.pick(&[Call::Collect, Call::List(2), Call::Threshold(64, 3)]));
+        }
+        case.end();
+    }
+}
+
 // ---------------------------------------------------------------- the book
 
 type Kind = (&'static str, fn(&mut Book, &mut Rng));
 
-const KINDS: [Kind; 24] = [
+const KINDS: [Kind; 33] = [
     ("examples", examples),
     ("two more of them", more_examples),
     ("geometries", geometries),
@@ -1191,10 +1494,19 @@ const KINDS: [Kind; 24] = [
     ("told apart", told_apart),
     ("told tests", told_tests),
     ("told runs", told_runs),
+    ("dead by hand", dead_by_hand),
+    ("dead of fresh", dead_of_fresh),
+    ("dead refused", dead_refused),
+    ("dead over others", dead_over_others),
+    ("dead in turn", dead_in_turn),
+    ("dead again", dead_again),
+    ("dead worn", dead_worn),
+    ("dead crowded", dead_crowded),
+    ("dead runs", dead_runs),
 ];
 
 /// What each call must have answered at least so often: 0 stands for success.
-const OWED: [&[i64]; 13] = [
+const OWED: [&[i64]; 14] = [
     &[0, -22],
     &[0, -22],
     &[0, -22, -61, -117],
@@ -1208,6 +1520,7 @@ const OWED: [&[i64]; 13] = [
     &[0, -22, -117, -28, -121, -5],
     &[0, -22, -117, -28, -121, -5],
     &[0, -22, -117, -28, -121, -5],
+    &[0, -22, -1, -2, -3, -4, -5, -6, -7, -8, -9],
 ];
 const OFTEN: usize = 5;
 

@@ -25,7 +25,6 @@ use Rattle.model.specs.Entry.{formatting, opening, read, encoding, restoring}
 use Rattle.model.specs.declared.Queueing.{Queueing}
 use Rattle.model.specs.History.{Call, Format, Open, Read, Write, Encode, Restore}
 use Rattle.model.specs.History.{run, contentOf, Reached, Since, lost, GivesBack}
-use Rattle.model.proofs.Guard.{guarded-by}
 use Rattle.model.proofs.Outcome.{one-outcome}
 use Rattle.model.proofs.Entry.{write-others, apart}
 use Rattle.model.proofs.Cut.{cut-restores}
@@ -37,7 +36,7 @@ use Rattle.demands.specs.Unit.{Collects, Shows, Ever, FromOpening}
 use Rattle.demands.proofs.Beyond.{read-beyond, encode-beyond}
 use Rattle.demands.proofs.Seen.{collected-content, read-behind-collection}
 use Rattle.demands.proofs.Unchanged.{scratch-back}
-use Rattle.demands.proofs.Signs.{signs, reasons, same-below, unlike-count}
+use Rattle.demands.proofs.Signs.{signs, moved-of, reasons, same-below, unlike-count}
 use Rattle.demands.proofs.Exactly.{answers-of}
 use Rattle.demands.proofs.Leaves.{leaves}
 use Rattle.demands.proofs.Kept.{unit-restores}
@@ -176,18 +175,6 @@ module _ (G : Geometry) (bad : List ℕ) where
 
 -- ---- the third demand, second half
 
-abbrev count-of : ℤ → ℕ
-count-of (pos m) = m
-count-of (negsuc k) = k
-
--- an encoding that answers a count has moved as many bytes
-encode-moved : (G : Geometry) (x : Lent) (m : ℕ) → pos m ≡ number Old (encoding G x .answer) → encoding G x .answer ≡ Moved m
-unfolding encoding
-encode-moved G x m =
-    guarded-by (λ (o : Outcome). pos m ≡ number Old (o .answer) → o .answer ≡ Moved m) _ _ _ _ x _ (unlike-count m 21)
-    (unlike-count m 116)
-    (λ _ _ _ _ e. ap (λ (z : ℤ). Moved (count-of z)) (sym e))
-
 -- `encode` wrote the file b′ at a recorder; `back`: whatever has happened to a recorder r since, as h says, the file gives everything back. Then
 -- `restore` is lent that file, any words and use marks of the right sizes, and clean marks: it answers 0, and over the flash as it stands each
 -- logical page holds what it held when the checkpoint was taken.
@@ -206,7 +193,7 @@ restored-back G bad q H w₀ u₀ f₀ b b′ s s′ m E back r h hw hu w u t z 
     let file : b′ ≡ run G bad (Encode b s) r₀ .left .buffer = ap (λ (x : Lent). x .buffer) (e .left-is) in
     let B : GivesBack G bad r₀ (take m b′) q r =
     subst (λ (z : List ℕ). GivesBack G bad r₀ (take m z) q r) (sym file)
-    (back r (encode-moved G (lent r₀ b s) m (e .answer-is)) (subst (λ (z : List ℕ). H (take m z) r) file h) hw hu) in
+    (back r (moved-of G bad Old (Encode b s) r₀ m (e .answer-is)) (subst (λ (z : List ℕ). H (take m z) r) file h) hw hu) in
     let p = restore-runs G bad (r .flash) q (take m b′) (r .words) (r .used) w u (zeros (pages G) ∷ []) t z P in
     (p .answer-is ∙ ap (number Old) (B .answer), λ l. ap (λ (r : Recorder). contentOf G r l) (ap (λ (x : Lent). x .unit) (p .left-is)) ∙ B .contents l)
 

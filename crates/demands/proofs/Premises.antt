@@ -1,9 +1,10 @@
--- The premises of Leaves, Signs, Seen, Fresh, Marked, Kept, PowerOn, Served and Told can be met: two units of device A and A3, by computation. Exactly
+-- The premises of Leaves, Signs, Seen, Fresh, Marked, Kept, PowerOn, Served, Told and Queued can be met: two units of device A and A3, by computation. Exactly
 -- asks nothing.
 use Prim.Native.Nat.{ℕ, _≤_}
 use native.Mathlib.Omega.{arith}
 use mathlib.Core.Path.{_≡_, refl}
 use mathlib.Core.List.{List, [], _∷_, _++_}
+use lib.IntN.{pos}
 use lib.ListN.{take, replicate}
 use Rattle.crc32.specs.Crc32.{plus, add, among, powers, low, remainder, bitsOf, bits, digit, number as valueOf, dividend, crc32}
 use Rattle.model.specs.declared.Geometry.{Geometry}
@@ -12,20 +13,21 @@ use Rattle.model.specs.declared.Answer.the-variants.{Moved, Refused}
 use Rattle.model.specs.declared.Cause.the-variants.{Wrong, Unmapped, NoRoom, Device, CopyNoRoom, CopyDevice, Erase, Reason}
 use Rattle.model.specs.Lists.{without, pushFront, insertBy, sortBy, splice, total, occ, all, every, blank, upTo, zeros}
 use Rattle.model.specs.Numbers.{good?, endless}
-use Rattle.model.specs.Tables.{view, packed}
+use Rattle.model.specs.Tables.{queueOf, view, packed}
 use Rattle.model.specs.Sound.{names, soundb}
 use Rattle.model.specs.Device.{Flash, flash, burn, mayProgram, mayErase, formatFrom, formattedFlash}
 use Rattle.model.specs.PageMap.{clearFrom, findFrom, find, invalidate, forget}
 use Rattle.model.specs.PageWrite.{oldPage, writeAt, writePage}
 use Rattle.model.specs.PageGc.{sorted, finishOf, drain, collectOf, collect, collectMore, collectList, collectThreshold}
-use Rattle.model.specs.Checkpoint.{fresh, usedBy, word, long, words, wordAt, longAt, wordsAt, head, file, reasonOf, welcome, settleAll, restored}
+use Rattle.model.specs.Checkpoint.{fresh, usedBy, word, long, words, wordAt, longAt, wordsAt, head, file, reasonOf, welcome, settleAll, restored, queueDead, deadOnes}
 use Rattle.model.specs.Entry.{Recorder, recorder, unless, guarded, clean, formatting, opening, read, write, collection, listCollection, thresholdCollection, encoding, restoring}
 use Rattle.model.specs.declared.Queueing.{Queueing}
-use Rattle.model.specs.declared.Queueing.the-variants.{Empty}
+use Rattle.model.specs.declared.Queueing.the-variants.{Empty, Dead}
 use Rattle.model.specs.History.{Call, Format, Open, Read, Write, Collect, CollectList, CollectThreshold, Encode, Restore, run, after, lit}
 use Rattle.model.specs.History.{lost, Since, GivesBack, InService}
 use Rattle.model.specs.History as history
 use Rattle.model.proofs.Guard.{good-test}
+use Rattle.model.proofs.Entry.{tab}
 use Rattle.model.proofs.Witness as witness
 use Rattle.demands.specs.Left.{Leaves}
 use Rattle.demands.specs.Unit.{burnt, MarkedIn, Shows, Ever, start, cut, FromOpening, opens, calls, regains}
@@ -36,6 +38,7 @@ use Rattle.demands.proofs.Seen.{read-after-write, read-behind-collectio
 use Rattle.demands.proofs.Kept.{unit-restores}
 use Rattle.demands.proofs.Served.{serves, refused-by-the-fuse}
 use Rattle.demands.proofs.Told.{told-by-the-fuse}
+use Rattle.demands.proofs.Queued.{saved-queued}
 use Rattle.demands.proofs.PowerOn.{powered-read, powered-encode, powered-restore}
 
 abbrev A : Geometry
@@ -136,6 +139,30 @@ regained =
       ever = v;
       regained = a;
       back = unit-restores A bad again a (zeros 64) (zeros 4 ∷ []) 64 refl start refl refl;
+    }
+
+-- its checkpoint restored with `Dead`: segment 0, full, one of its two pages mapped, is queued; of the functions that run the same
+pub record Requeued : Type 0 where
+  queue : queueOf (tab A (after A bad (Restore Dead kept (zeros 4 ∷ [])) dark)) ≡ 0 ∷ []
+  dead : deadOnes A 2 0 (tab A unit) ≡ 0 ∷ []
+  saved : queueOf (tab A (after A bad (Restore Dead kept (zeros 4 ∷ [])) dark)) ≡ deadOnes A 2 0 (tab A unit)
+
+requeued : Requeued
+unfolding
+    without pushFront insertBy sortBy splice total occ all every blank upTo good? view packed names soundb burn mayProgram mayErase formatFrom
+    clearFrom findFrom find invalidate forget oldPage writeAt writePage usedBy word long words wordAt longAt wordsAt head file reasonOf welcome settleAll
+    restored queueDead deadOnes unless guarded clean formatting opening write encoding restoring plus add among powers low remainder bitsOf bits digit valueOf
+    dividend crc32
+requeued =
+    let r : Recorder = after A bad (Restore Dead kept (zeros 4 ∷ [])) dark in
+    record {
+      queue = refl;
+      dead = refl;
+      saved =
+          saved-queued A (unit .words) (unit .used) (zeros 64) (run A bad saving unit .left .buffer) (zeros 4 ∷ []) (zeros 4 ∷ []) 64
+          (record { left-is = refl; answer-is = refl })
+          (zeros 19) (zeros 4) refl refl (r .words) (r .used) (zeros 4 ∷ []) (pos 0)
+          (record { left-is = refl; answer-is = refl });
     }
 
 -- what a read shows: behind a write, and the same before and behind a collection that moved the page

@@ -1,25 +1,24 @@
 -- 02, M-109, of the functions that run: what `restore` leaves under either choice. Each premise `Promise …` is its `ensures`, letter for letter.
 use Prim.Native.Nat.{ℕ, _<_}
 use mathlib.Core.Path.{_≡_, sym, ap, _∙_, subst}
-use mathlib.Core.Logic.{_⊎_, inl, inr}
 use mathlib.Core.List.{List, [], _∷_}
-use lib.IntN.{ℤ, pos, negsuc}
+use lib.IntN.{ℤ, pos}
+use lib.ListN.{length, take}
 use Rattle.model.specs.declared.Geometry.{Geometry}
 use Rattle.model.specs.declared.Numbers.the-variants.{Old}
 use Rattle.model.specs.declared.Queueing.{Queueing}
 use Rattle.model.specs.declared.Queueing.the-variants.{Empty, Dead}
 use Rattle.model.specs.declared.Answer.the-variants.{Moved}
-use Rattle.model.specs.Lists.{bit}
+use Rattle.model.specs.Lists.{bit, zeros}
 use Rattle.model.specs.Numbers.{number}
-use Rattle.model.specs.Tables.{Tables, at, queueOf, view}
+use Rattle.model.specs.Tables.{Tables, at, queueOf, tabWords, pages, view}
 use Rattle.model.specs.Checkpoint.{dead?, deadOnes, withQueue}
-use Rattle.model.specs.Entry.{Recorder, recorder, Lent, lent, Promise, noFlash, restoring}
-use Rattle.model.specs.History.{Restore, run, after}
+use Rattle.model.specs.Entry.{Recorder, recorder, Lent, lent, Promise, noFlash, encoding, restoring}
+use Rattle.model.specs.History.{Encode, Restore, run, after}
 use Rattle.model.proofs.Entry.{tab}
 use Rattle.model.proofs.Frame.{one-answer}
-use Rattle.model.proofs.Round.{queued-dead, flagged-dead, else-alike}
-use Rattle.demands.specs.When.{IsCount, IsRefusal}
-use Rattle.demands.proofs.Signs.{signs, unlike-count}
+use Rattle.model.proofs.Round.{queued-dead, flagged-dead, else-alike, queued-again}
+use Rattle.demands.proofs.Signs.{moved-of}
 
 module _ (G : Geometry) (b w u : List ℕ) (s : List (List ℕ)) where
   abbrev unit : Recorder
@@ -32,23 +31,11 @@ module _ (G : Geometry) (b w u : List ℕ) (s : List (List ℕ)) where
   left-is : (q : Queueing) (w′ u′ : List ℕ) (t : List (List ℕ)) (z : ℤ) → Restores q w′ u′ t z → view G w′ u′ ≡ tab G (after G [] (Restore q b s) unit)
   left-is q w′ u′ t z P = ap (λ (x : Lent). view G (x .unit .words) (x .unit .used)) (P .left-is)
 
-  count-of : ℤ → ℕ
-  count-of (pos k) = k
-  count-of (negsuc k) = k
-
-  done : (q : Queueing) (w′ u′ : List ℕ) (t : List (List ℕ)) → Restores q w′ u′ t (pos 0) → run G [] (Restore q b s) unit .answer ≡ Moved 0
-  unfolding count-of
-  done q w′ u′ t P = go (signs G [] Old (Restore q b s) unit)
-    where
-      go : IsCount (run G [] (Restore q b s) unit .answer) ⊎ IsRefusal Old (run G [] (Restore q b s) unit .answer) → run G [] (Restore q b s) unit .answer ≡ Moved 0
-      go (inl h) = h .answer ∙ ap (λ (z : ℤ). Moved (count-of z)) (sym (P .answer-is ∙ h .number-is Old))
-      go (inr h) = unlike-count 0 (h .below) (P .answer-is ∙ h .number-is)
-
   -- "each segment with free count 0 and a list shorter than p on the queue, ascending, flags set", and no other
   pub dead-queued : (w′ u′ : List ℕ) (t : List (List ℕ)) → Restores Dead w′ u′ t (pos 0)
       → (queueOf (view G w′ u′) ≡ deadOnes G (G .n) 0 (view G w′ u′)) × ((g : ℕ) → g < G .n → at (view G w′ u′ .flags) g ≡ bit (dead? G g (view G w′ u′)))
   dead-queued w′ u′ t P =
-      let e : run G [] (Restore Dead b s) unit .answer ≡ Moved 0 = done Dead w′ u′ t P in
+      let e : run G [] (Restore Dead b s) unit .answer ≡ Moved 0 = moved-of G [] Old (Restore Dead b s) unit 0 (P .answer-is) in
       subst (λ (v : Tables). (queueOf v ≡ deadOnes G (G .n) 0 v) × ((g : ℕ) → g < G .n → at (v .flags) g ≡ bit (dead? G g v)))
       (sym (left-is Dead w′ u′ t (pos 0) P))
       (queued-dead G [] b s unit e, flagged-dead G [] b s unit e)
@@ -62,3 +49,19 @@ module _ (G : Geometry) (b w u : List ℕ) (s : List (List ℕ)) where
         P .answer-is ∙ ap (number Old) (one-answer G Dead Empty b (lent unit [] s)) ∙ sym (Q .answer-is),
         d ∙ else-alike G [] b s unit ∙ sym (ap (λ (v : Tables). withQueue v (view G w″ u″)) d ∙ ap (withQueue (tab G (after G [] (Restore Dead b s) unit))) e),
       )
+
+-- `encode` wrote the file b′ of the words w₀ and the use marks u₀. `restore` with `Dead` is lent that file, any words and use marks of the right sizes, and
+-- clean marks: it leaves exactly those segments queued that had free count 0 and a list shorter than p when the checkpoint was taken.
+pub saved-queued : (G : Geometry) (w₀ u₀ b b′ : List ℕ) (s s′ : List (List ℕ)) (m : ℕ)
+    → Promise (encoding G (lent (recorder w₀ u₀ noFlash) b s)) (lent (recorder w₀ u₀ noFlash) b′ s′) (pos m)
+    → (w u : List ℕ) → length w ≡ tabWords G → length u ≡ pages G
+    → (w′ u′ : List ℕ) (t : List (List ℕ)) (z : ℤ) → Restores G (take m b′) w u (zeros (pages G) ∷ []) Dead w′ u′ t z
+    → queueOf (view G w′ u′) ≡ deadOnes G (G .n) 0 (view G w₀ u₀)
+saved-queued G w₀ u₀ b b′ s s′ m E w u hw hu w′ u′ t z P =
+    let r₀ : Recorder = recorder w₀ u₀ noFlash in
+    let e : run G [] (Encode b s) r₀ .answer ≡ Moved m = moved-of G [] Old (Encode b s) r₀ m (E .answer-is) in
+    let q : queueOf (tab G (after G [] (Restore Dead (take m b′) (zeros (pages G) ∷ [])) (recorder w u noFlash))) ≡ deadOnes G (G .n) 0 (view G w₀ u₀) =
+    subst (λ (z : List ℕ). queueOf (tab G (after G [] (Restore Dead (take m z) (zeros (pages G) ∷ [])) (recorder w u noFlash))) ≡ deadOnes G (G .n) 0 (view G w₀ u₀))
+    (sym (ap (λ (x : Lent). x .buffer) (E .left-is)))
+    (queued-again G [] r₀ b s m e (recorder w u noFlash) hw hu) in
+    ap queueOf (left-is G (take m b′) w u (zeros (pages G) ∷ []) Dead w′ u′ t z P) ∙ q

@@ -1,7 +1,7 @@
 -- "Each call answers one signed number: bytes moved, or a refusal number negated.": its exact sign cases, for every call on every input.
 use Prim.Native.Nat.{ℕ, zero, suc, _+_, _≤_, _<_}
 use native.Mathlib.Omega.{arith}
-use mathlib.Core.Path.{_≡_, refl, sym, ap, subst}
+use mathlib.Core.Path.{_≡_, refl, sym, ap, subst, _∙_}
 use mathlib.Core.Bool.{Bool, true, false}
 use mathlib.Core.Logic.{_⊎_, inl, inr, _≢_}
 use mathlib.Core.List.{List, [], _∷_}
@@ -16,6 +16,7 @@ use Rattle.model.specs.declared.Numbers.the-variants.{Old, New}
 use Rattle.model.specs.declared.Answer.{Answer}
 use Rattle.model.specs.declared.Answer.the-variants.{Moved, Refused}
 use Rattle.model.specs.declared.Cause.the-variants.{Wrong, Unsound, Unmapped, NoRoom, Device, CopyNoRoom, CopyDevice, Erase, Reason}
+use Rattle.model.specs.Numbers.{number}
 use Rattle.model.specs.Causes.{kindOf, OfReason, ReasonsIn}
 use Rattle.model.specs.Device.{State, Out}
 use Rattle.model.specs.PageWrite.{writePage}
@@ -79,6 +80,10 @@ unlike-count m j e = absurd (subst counts e tt)
     counts (pos m) = Unit {0}
     counts (negsuc k) = ⊥
 
+abbrev count-of : ℤ → ℕ
+count-of (pos k) = k
+count-of (negsuc k) = k
+
 module _ (G : Geometry) (bad : List ℕ) where
   abbrev FairOut : Outcome → Type 0
   FairOut o = Fair (o .answer)
@@ -133,3 +138,11 @@ module _ (G : Geometry) (bad : List ℕ) where
   -- a reason from 1 to 9
   pub reasons : (c : Call) (r : Recorder) (k : ℕ) → run G bad c r .answer ≡ Refused (Reason k) → (1 ≤ k) × (k ≤ 9)
   reasons c r k e = subst Fair e (fair c r)
+
+  -- a count that comes back was moved
+  pub moved-of : (N : Numbers) (c : Call) (r : Recorder) (m : ℕ) → pos m ≡ number N (run G bad c r .answer) → run G bad c r .answer ≡ Moved m
+  moved-of N c r m e = go (signs N c r)
+    where
+      go : IsCount (run G bad c r .answer) ⊎ IsRefusal N (run G bad c r .answer) → run G bad c r .answer ≡ Moved m
+      go (inl h) = h .answer ∙ ap (λ z. Moved (count-of z)) (sym (e ∙ h .number-is N))
+      go (inr h) = unlike-count m (h .below) (e ∙ h .number-is)

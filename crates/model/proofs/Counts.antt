@@ -174,6 +174,11 @@ count-all n (y ∷ q) h =
     sum-add n (λ g. bit (eqb g y)) (λ g. occ g q)
     ∙ omega (arith, sum-one n y (h y (omega (arith, bit-same y))), count-all n q (λ x m. h x (omega arith)))
 
+pub sum-same : (n : ℕ) (f h : ℕ → ℕ) → ((g : ℕ) → f g ≡ h g) → sumTo n f ≡ sumTo n h
+unfolding sumTo
+sum-same zero f h e = refl
+sum-same (suc n) f h e = cc (e n, sum-same n f h e)
+
 sum-le : (n : ℕ) (f : ℕ → ℕ) → ((g : ℕ) → f g ≤ 1) → sumTo n f ≤ n
 unfolding sumTo
 sum-le zero f h = omega arith

@@ -360,6 +360,22 @@ table =
     (mem
     (tables (three 2 3 0) (three 0 0 2) (three 1 2 0) (six 1 1 1 1 0 0) (six 2 0 0 1 0 0) (three 1 2 0) (three 0 0 0) (three 1 0 0) 0 1)
     (flash (fill (six 255 255 255 255 255 255)) (six 0 0 0 0 0 0) (three 0 0 0) endless))
+    -- a reason leaves all, under this choice too
+    ∷ new A (page 0 1 ∷ loadDead (saved 1 (three none 2 none) (two 3 1)) ∷ []) (moved 4 ∷ refused 9 ∷ []) started
+    -- E4's victim, off the queue since its refused collection, is queued again, and taken by the next one; by the old choice E5's 0 stays
+    ∷ new A
+    (page 0 1 ∷ page 1 2 ∷ page 2 3 ∷ page 0 4 ∷ gc ∷ loadDead (saved 1 (three 3 1 2) (two 0 0)) ∷ gc ∷ load (saved 1 (three 3 1 2) (two 0 0)) ∷ gc ∷ [])
+    (moved 4 ∷ moved 4 ∷ moved 4 ∷ moved 4 ∷ refused 14 ∷ moved 0 ∷ refused 14 ∷ moved 0 ∷ moved 0 ∷ [])
+    (mem
+    (tables (three 3 1 2) (two 0 0) (two 1 2) (four 1 1 1 1) (four 1 0 0 2) (two 1 2) (two 0 0) (two 0 0) 1 0)
+    (flash (fill (four 1 2 3 4)) (four 1 1 1 1) (two 0 0) endless))
+    -- E6's segment, full with a dead page and not queued, is queued, and collected
+    ∷ new (like-A 2 3 2 5)
+    (page 0 1 ∷ page 0 2 ∷ page 1 3 ∷ loadDead (saved 0 (three 1 2 none) (two 0 3)) ∷ gc ∷ [])
+    (moved 4 ∷ moved 4 ∷ moved 4 ∷ moved 0 ∷ moved 0 ∷ [])
+    (mem
+    (tables (three 5 4 none) (two 3 1) (two 0 2) (six 0 0 0 1 1 0) (six 0 0 0 1 0 0) (two 0 2) (two 0 0) (two 0 0) 1 0)
+    (flash (fill (six 255 255 255 3 2 255)) (six 0 0 0 1 1 0) (two 1 0) endless))
     -- E10 checkpoint of A: 64 bytes; the buffer's two beyond stay
     ∷ new A
     (save ∷ [])

@@ -8,19 +8,20 @@ use mathlib.Core.Bool.{Bool, true, false, cond, _&&_}
 use mathlib.Core.Logic.{_⊎_, inl, inr, _≢_}
 use mathlib.Core.List.{List, [], _∷_, _++_, append-nil, append-assoc}
 use lib.Dec.{eqb, ltb}
-use lib.ListN.{length, take, drop, set, length-set}
+use lib.ListN.{length, getD, take, drop, set, length-set}
 use lib.Seq.{take-suc-set, drop-set-lt, drop-drop, getD-set-same, getD-set-other}
 use borrow.Author.Tests.{eqb-true}
 use Rattle.model.specs.Lists.{occ, bit, zeros}
-use Rattle.model.specs.Numbers.{Geometry, Good}
-use Rattle.model.specs.Tables.{Tables, at, queueOf}
+use Rattle.model.specs.Numbers.{Geometry, Good, empty}
+use Rattle.model.specs.Tables.{Tables, at, wordOf, listOf, queueOf}
+use Rattle.model.specs.Sound.{names}
 use Rattle.model.specs.Checkpoint.{Queueing, Empty, Dead, dead?, queueLast, queueDead, deadOnes, withQueue, requeued, welcome, settle, settleAll, bare, restored}
 use Rattle.model.specs.Checkpoint.{restoredBy, reasonOf, mapOf, freeOf, allocOf}
 use Rattle.model.proofs.Working.{Counted}
-use Rattle.model.proofs.Slots.{same?, set-ind, drop-zeros, same-replicate}
-use Rattle.model.proofs.Counts.{bit-same, bit-other, occ-one, occ-append}
+use Rattle.model.proofs.Slots.{same?, set-ind, drop-zeros, same-replicate, mapped-lt}
+use Rattle.model.proofs.Counts.{bit-same, bit-other, occ-one, occ-append, sumTo, sum-same, count-all}
 use Rattle.model.proofs.Tests.{both}
-use Rattle.model.proofs.Reading.{in-flags}
+use Rattle.model.proofs.Reading.{in-flags, list-length, list-mapped}
 use Rattle.model.proofs.Enqueue.{has-room}
 use Rattle.model.proofs.Restore.{Back}
 use Rattle.model.proofs.Sealed.{accepted-sound}
@@ -192,3 +193,23 @@ module _ (G : Geometry) where
 
     pub flags-are : (g : ℕ) → g < G.n → at (requeued G Dead (restored G words free alloc) .flags) g ≡ bit (dead? G g (restored G words free alloc))
     flags-are g h = dead-flags G.n 0 _ (omega arith) S (restored-ahead words free alloc) g (omega arith) h
+
+  -- a list holds exactly the pages mapped into its segment: with one map, lists of one length
+  same-lens : (t t′ : Tables) → Counted G t → Counted G t′ → t′ .map ≡ t .map → (g : ℕ) → g < G.n → at (t′ .lens) g ≡ at (t .lens) g
+  same-lens t t′ S S′ e g h = sym (counts t′ S′) ∙ ap (λ m. sumTo G.e (λ l. names G (getD m l empty) g)) e ∙ counts t S
+    where
+      counts : (t : Tables) → Counted G t → sumTo G.e (λ l. names G (wordOf t l) g) ≡ at (t .lens) g
+      counts t S =
+          sum-same G.e _ _ (λ l. sym (S .listed l g h))
+          ∙ count-all G.e (listOf G t g) (λ l b. rw (S .sized .map) at (mapped-lt (t .map) l empty (list-mapped G t S l g h b .0)))
+          ∙ list-length G t S g h
+
+  ones-same : (t t′ : Tables) → ((g : ℕ) → g < G.n → dead? G g t′ ≡ dead? G g t) → (k x : ℕ) → k + x ≡ G.n → deadOnes G k x t′ ≡ deadOnes G k x t
+  unfolding deadOnes
+  ones-same t t′ h zero x e = refl
+  ones-same t t′ h (suc k) x e = cc (h x (omega arith), ones-same t t′ h k (suc x) (omega arith))
+
+  -- tables that come back with their map and free counts have the same such segments
+  pub ones-back : (t t′ : Tables) → Counted G t → Counted G t′ → Back t t′ → deadOnes G G.n 0 t′ ≡ deadOnes G G.n 0 t
+  ones-back t t′ S S′ B =
+      ones-same t t′ (λ g h. cc (ap (λ xs. at xs g) (B .free), same-lens t t′ S S′ (B .map) g h)) G.n 0 (omega arith)

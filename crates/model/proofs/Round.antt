@@ -14,7 +14,7 @@ use Rattle.model.specs.History.{Encode, Restore, run, after}
 use Rattle.model.proofs.View.{view-packed}
 use Rattle.model.proofs.Working.{Counted}
 use Rattle.model.proofs.Restore.{Back}
-use Rattle.model.proofs.Requeue.{requeued-alone, requeued-back, ones-with, queue-is, flags-are}
+use Rattle.model.proofs.Requeue.{requeued-alone, requeued-back, ones-with, ones-back, queue-is, flags-are}
 use Rattle.model.proofs.Sealed.{comes-back, accepted-sound}
 use Rattle.model.proofs.Entry.{tab, Begun, Stayed, or-begun, restored-or, restored-passes}
 use Rattle.model.proofs.Frame.{one-answer}
@@ -84,3 +84,20 @@ module _ (G : Geometry) (bad b : List ℕ) (s : List (List ℕ)) (r : Recorder) 
           d ∙ sym (ap (λ t. withQueue t (left Empty)) d ∙ ap (withQueue (tab G r)) e)
       go (inl y) (inr B) =
           absurd (let z : Refused (y .cause) ≡ Moved 0 = sym (ap (λ (o : Outcome). o .answer) (y .is)) ∙ same ∙ B .answer in let n : _≡_ {A = ℕ} 0 1 = cc in omega arith)
+
+-- A saved sound state comes back with exactly those segments queued that had free count 0 and a list shorter than p when it was saved: a victim that a
+-- refused collection took off the queue comes back to it
+pub queued-again : (G : Geometry) (bad : List ℕ) (r₀ : Recorder) (buffer : List ℕ) (scratch : List (List ℕ)) (m : ℕ)
+    → run G bad (Encode buffer scratch) r₀ .answer ≡ Moved m
+    → (r : Recorder) → length (r .words) ≡ tabWords G → length (r .used) ≡ pages G
+    → let file = take m (run G bad (Encode buffer scratch) r₀ .left .buffer) in
+    queueOf (tab G (after G bad (Restore Dead file (zeros (pages G) ∷ [])) r)) ≡ deadOnes G (G .n) 0 (tab G r₀)
+queued-again G bad r₀ buffer scratch m e r a b =
+    let E : Encoded G (lent r₀ buffer scratch) m (run G bad (Encode buffer scratch) r₀ .left .buffer) = encoded G (lent r₀ buffer scratch) m e in
+    let f = sealed G (tab G r₀) in
+    let B : Begun G r (restoredBy G Dead f) _ = restores G bad r₀ (E .good) (E .counted) Dead r a b in
+    let t : tab G (after G bad (Restore Dead f (zeros (pages G) ∷ [])) r) ≡ restoredBy G Dead f = ap (tab G) (B .unit) ∙ view-packed (B .counted .sized) in
+    subst (λ z. queueOf (tab G (after G bad (Restore Dead z (zeros (pages G) ∷ [])) r)) ≡ deadOnes G (G .n) 0 (tab G r₀)) (sym (E .file))
+    (queued-dead G bad f (zeros (pages G) ∷ []) r (B .answer)
+    ∙ ap (deadOnes G (G .n) 0) t
+    ∙ ones-back G (tab G r₀) (restoredBy G Dead f) (E .counted) (B .counted) (requeued-back G Dead (tab G r₀) _ (comes-back G (E .good) (tab G r₀) (E .counted))))
