@@ -22,7 +22,7 @@ int main(void)
         return 1;
     }
     for (i = 0; i < unit.tab.len; i++) unit.tab.at[i] = 0xDEADBEEFu; /* what a power cut does to the tables */
-    answer = shr_unit_restore(&geo, &unit, file, (size_t)len);
+    answer = shr_unit_restore_dead(&geo, &unit, file, (size_t)len);
     if (answer < 0) {
         printf("not restored: %s\n", shr_reason_text(answer));
         return 1;

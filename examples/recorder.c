@@ -4,11 +4,12 @@
  * Each peak is 8 bytes, written by a short write into the pages of its sensor: minute (4), methane in hundredths of a percent (2),
  * sensor (1), check (1). The oldest peaks of a sensor make room for the newest.
  *
- *   recorder [seed=N] [cuts=N] [span=N] [limit=N] [dir=PATH] [sync=0] [states=1] [careless=1]
+ *   recorder [seed=N] [cuts=N] [span=N] [limit=N] [dir=PATH] [sync=0] [states=1] [careless=1] [winter=1]
  *
  * A cut comes within `span` device operations; `limit` is how many erases a segment bears; the checkpoint's file is in `dir`, and sync=0
  * does not wait until it is on the disk; states=1 writes a collection's two states for tools/segments; careless=1 leaves out the checkpoint
- * before an erase, and loses peaks.
+ * before an erase, and loses peaks; winter=1 cuts nothing, refuses every second collection, and records the same peaks twice, once with each
+ * restore.
  *
  * The order of calls is that of docs/USING.md. Every library call here does at most one device operation, and the recorder carries it
  * out on the part at once: a write programs the page that the map then names, a collection of a drained segment erases it.
@@ -34,7 +35,8 @@ enum {
     RING = ENTRIES / SENSORS * PER_PAGE, /* peaks of one sensor */
     FLASH = SEGMENTS * PAGES * PAGE,
     RESERVE = 2 * PAGES, /* free pages kept for moving pages out of a segment, and for those that a restart spends */
-    EVERY = 16           /* peaks between checkpoints */
+    EVERY = 16,          /* peaks between checkpoints */
+    WINTER = 2000        /* peaks of a winter */
 };
 
 /* The flash part and what is kept beside it: all that outlives the power, with the checkpoint's file. */
@@ -46,7 +48,7 @@ struct part {
 };
 
 struct tally {
-    unsigned long peaks, checkpoints, collected, moved, full, device, worn;
+    unsigned long peaks, checkpoints, collected, moved, full, device, worn, refused;
 };
 
 struct recorder {
@@ -61,9 +63,11 @@ struct recorder {
     uint8_t covered[ENTRIES][PAGE]; /* what the last checkpoint covers: a notebook for this demonstration, no unit has it */
     int64_t held[ENTRIES];
     unsigned long since; /* peaks since then */
+    uint8_t offered[ENTRIES * PAGE]; /* a second notebook: the newest peaks of each sensor, whatever the unit did with them */
     size_t erasing; /* segment that a collection is about to erase, or SEGMENTS */
     int states;     /* a collection's two states are still to be written */
-    int careless, sync;
+    int careless, sync, winter, old; /* old: restores by the old choice, which leaves the queue empty */
+    unsigned long erases;            /* erases tried in the winter */
     const char *dir;
     struct tally tally;
 };
@@ -227,26 +231,71 @@ static int64_t put(struct recorder *r, size_t sector, size_t len, const uint8_t 
     }
 }
 
-/* Puts every full segment with a dead page on the queue that is not on it: a restore empties the queue, and a segment whose pages died
- * before it was full is on it only after one more of them dies. The tables stay sound; the next call tests it. */
-static void queue_again(struct recorder *r)
+/* Makes the tables of the stored checkpoint, and queues every full segment with a dead page. The worn-out are among them: each comes before
+ * all that hold a page, is refused once (5) and is off the queue again. None is taken off by hand: the tables change by calls alone, and the
+ * stored checkpoint stays good. Bad segment 5 is never among them, since its pages are free. */
+static void restore(struct recorder *r)
 {
-    uint32_t *tab = r->unit.tab.at, *queue = tab + ENTRIES + 3 * SEGMENTS, *flags = queue + SEGMENTS, *queued = flags + SEGMENTS + 1;
-    size_t g;
-    for (g = 0; g < SEGMENTS; g++) {
-        if (shr_unit_free(&r->geo, &r->unit, g) > 0 || flags[g] || shr_unit_listed(&r->geo, &r->unit, g) == PAGES) continue;
-        if (r->unit.bad.at[g] || r->unit.counts.at[g] >= r->geo.limit) continue;
-        queue[(*queued)++] = (uint32_t)g;
-        flags[g] = 1;
-    }
+    uint8_t file[1024];
+    size_t len = load(r, file, sizeof file);
+    int64_t answer = r->old ? shr_unit_restore(&r->geo, &r->unit, file, len) : shr_unit_restore_dead(&r->geo, &r->unit, file, len);
+    if (answer < 0) stop("restore", shr_reason_text(answer));
 }
 
-/* One collection, of a queue that is not empty, in the order that keeps every stored checkpoint good: its segment is drained by writes of
- * no bytes, a checkpoint that names none of its pages is stored, and only then is it erased. Answers 0, or what refused. */
-static int64_t make_room(struct recorder *r)
+/* Whether a segment that can still be erased is full and has a dead page: without one there is no room to gain. */
+static int collectable(const struct recorder *r)
+{
+    size_t g;
+    for (g = 0; g < SEGMENTS; g++) {
+        if (r->unit.bad.at[g] || r->unit.counts.at[g] >= r->geo.limit) continue;
+        if (shr_unit_free(&r->geo, &r->unit, g) == 0 && shr_unit_listed(&r->geo, &r->unit, g) < PAGES) return 1;
+    }
+    return 0;
+}
+
+/* Queues what no write queues while the unit runs: a segment whose pages died before it was full, and one whose collection was refused. The
+ * state is stored and made again, as by a restart; map, free counts and allocation segment come back as they were. */
+static void queue_again(struct recorder *r)
+{
+    checkpoint(r);
+    restore(r);
+}
+
+static int is_queued(const struct recorder *r, size_t g)
+{
+    size_t i;
+    for (i = 0; i < shr_unit_queued(&r->geo, &r->unit); i++)
+        if (shr_unit_queue(&r->geo, &r->unit, i) == g) return 1;
+    return 0;
+}
+
+/* After a refused erase of a segment that is not worn out. It is full, holds no page, is off the queue, and its flag is set: no write
+ * queues it again. Stored and made again it is queued, and the next collection can take it; the old choice leaves it out for good. */
+static void recover(struct recorder *r, size_t g)
+{
+    if (is_queued(r, g) || !shr_unit_flag(&r->geo, &r->unit, g)) stop("collection", "a refused segment is not off the queue, flag set");
+    queue_again(r);
+    if (is_queued(r, g) == r->old) stop("restore", r->old ? "the old choice queued a segment" : "a refused segment is not queued again");
+    r->tally.refused++;
+}
+
+/* The collection of a drained segment, an erase and nothing else. In the winter the supply dips at every second one: the device refuses it. */
+static int64_t erase_drained(struct recorder *r)
+{
+    uint64_t fuse = r->unit.fuse;
+    int dips = r->winter && r->erases++ % 2 == 0;
+    int64_t answer;
+    if (dips) r->unit.fuse = 0;
+    answer = shr_unit_collect_told(&r->geo, &r->unit);
+    if (dips) r->unit.fuse = fuse;
+    return answer;
+}
+
+/* The collection of the queue's victim g, in the order that keeps every stored checkpoint good: it is drained by writes of no bytes, a
+ * checkpoint that names none of its pages is stored, and only then is it erased. Answers 0, or what refused. */
+static int64_t make_room(struct recorder *r, size_t g)
 {
     static const uint8_t nothing[1];
-    size_t g = shr_unit_victim(&r->geo, &r->unit);
     int64_t answer;
     int draw = r->states && shr_unit_listed(&r->geo, &r->unit, g) >= 3;
     if (draw) write_state(r, "before.state", "Before the collection");
@@ -258,7 +307,7 @@ static int64_t make_room(struct recorder *r)
     }
     if (!r->careless) checkpoint(r);
     r->erasing = g;
-    answer = shr_unit_collect_told(&r->geo, &r->unit);
+    answer = erase_drained(r);
     if (power_gone(r, answer)) return answer;
     r->erasing = SEGMENTS;
     if (answer < 0) return answer;
@@ -269,22 +318,22 @@ static int64_t make_room(struct recorder *r)
     return 0;
 }
 
-/* Collects until the reserve is there or nothing is left to collect. A refused erase (5) leaves a worn-out segment off the queue, full
- * and empty of peaks: it is out of use, and the next one is tried. */
+/* Collects until the reserve is there or nothing is left to collect. A refused erase (5) leaves its segment off the queue, full and empty of
+ * peaks: worn out, it is out of use, and the next one is tried; else it is made good. */
 static int64_t keep_reserve(struct recorder *r)
 {
     while (shr_unit_room(&r->geo, &r->unit) <= RESERVE) {
+        size_t g;
         int64_t answer;
-        if (shr_unit_queued(&r->geo, &r->unit) == 0) {
-            queue_again(r);
-            if (shr_unit_queued(&r->geo, &r->unit) == 0) return 0;
-            checkpoint(r);
-        }
-        answer = make_room(r);
+        if (shr_unit_queued(&r->geo, &r->unit) == 0 && collectable(r)) queue_again(r);
+        if (shr_unit_queued(&r->geo, &r->unit) == 0) return 0;
+        g = shr_unit_victim(&r->geo, &r->unit);
+        answer = make_room(r, g);
         if (power_gone(r, answer)) return answer;
         if (answer == -SHR_FULL) return 0;
-        if (answer == -SHR_DEVICE) r->tally.worn++;
-        else if (answer < 0) stop("collection", shr_refusal_text(answer));
+        if (answer < 0 && answer != -SHR_DEVICE) stop("collection", shr_refusal_text(answer));
+        if (answer < 0 && r->unit.counts.at[g] < r->geo.limit) recover(r, g);
+        else if (answer < 0) r->tally.worn++;
     }
     return 0;
 }
@@ -318,11 +367,13 @@ static int64_t record(struct recorder *r)
 {
     unsigned sensor = 1 + (unsigned)any(SENSORS), methane = 100 + (unsigned)any(150);
     uint8_t peak[PEAK];
+    size_t sector = sector_of(sensor, r->next[sensor - 1]);
     int64_t answer = keep_reserve(r);
     if (answer < 0) return answer;
     r->minute += 1 + (uint32_t)any(9);
     to_bytes(peak, r->minute, methane, sensor);
-    answer = put(r, sector_of(sensor, r->next[sensor - 1]), PEAK, peak);
+    memcpy(r->offered + sector, peak, PEAK);
+    answer = put(r, sector, PEAK, peak);
     if (answer == -SHR_FULL) r->tally.full++;
     if (answer < 0) return answer;
     r->newest[sensor - 1] = r->minute;
@@ -380,6 +431,7 @@ static void first_time(struct recorder *r)
     if (shr_unit_format(&r->geo, &r->unit) < 0 || shr_unit_open(&r->geo, &r->unit) < 0) stop("unit", "cannot be formatted");
     for (g = 0; g < SEGMENTS; g++) part_erase(r, g);
     memset(r->part->counts, 0, sizeof r->part->counts);
+    memset(r->offered, 0, sizeof r->offered);
     checkpoint(r);
     find_newest(r);
 }
@@ -407,18 +459,14 @@ static unsigned long lost_peaks(struct recorder *r, unsigned long *covered)
 /* After a cut: the tables are made again from the checkpoint, over the part as it stands. Answers the peaks lost. */
 static unsigned long come_up(struct recorder *r, uint64_t fuse)
 {
-    uint8_t file[1024];
-    size_t len = load(r, file, sizeof file);
     unsigned long lost, covered, found;
-    int64_t answer;
     power_up(r, fuse);
-    answer = shr_unit_restore(&r->geo, &r->unit, file, len);
-    if (answer < 0) stop("restore", shr_reason_text(answer));
+    restore(r);
     lost = lost_peaks(r, &covered);
     found = find_newest(r);
     printf("up    %lu peaks covered by the checkpoint, %lu of them lost; %lu recorded since then are gone\n", covered, lost, r->since);
-    queue_again(r);
-    checkpoint(r);
+    note(r);
+    r->since = 0;
     return lost + (found != covered);
 }
 
@@ -430,9 +478,9 @@ static int64_t live(struct recorder *r, unsigned life, unsigned long most)
     memset(t, 0, sizeof *t);
     while (answer >= 0 && t->peaks < most) answer = record(r);
     if (answer < 0 && answer != -SHR_DEVICE && answer != -SHR_FULL) stop("record", shr_refusal_text(answer));
-    if (life == 1 && t->device > 0) stop("record", "a programming refused with power left, before any restore");
-    printf("life %u: %lu peaks, %lu checkpoints, %lu segments collected, %lu pages moved, %lu worn out; refused 28: %lu, 5: %lu\n", life,
-           t->peaks, t->checkpoints, t->collected, t->moved, t->worn, t->full, t->device);
+    if (life == 1 && t->device > 0) stop("record", "a programming refused with power left, before any cut");
+    printf("life %u: %lu peaks, %lu checkpoints, %lu segments collected, %lu pages moved, %lu refused as worn out; refused 28: %lu, 5: %lu\n",
+           life, t->peaks, t->checkpoints, t->collected, t->moved, t->worn, t->full, t->device);
     return answer;
 }
 
@@ -450,6 +498,62 @@ static void show_part(struct recorder *r)
     peaks = find_newest(r);
     if (memcmp(newest, r->newest, sizeof newest) != 0) stop("read", "a newest peak is not there");
     printf("part  %lu peaks readable, the newest of minute %u\n", peaks, r->minute);
+}
+
+/* ---- last winter's fault */
+
+/* How many of the newest peaks offered are not there to be read. */
+static unsigned long missed(struct recorder *r)
+{
+    unsigned long count = 0;
+    size_t sector;
+    for (sector = 0; sector < ENTRIES * PAGE; sector += PEAK) {
+        unsigned sensor = 1 + (unsigned)(sector / (RING * PEAK));
+        uint8_t peak[PEAK];
+        if (minute_of(r->offered + sector, sensor) == 0) continue;
+        count += shr_unit_read(&r->geo, &r->unit, sector, PEAK, peak) != PEAK || memcmp(peak, r->offered + sector, PEAK) != 0;
+    }
+    return count;
+}
+
+/* How many segments are full, hold no page and are off the queue: no write gives them back. */
+static unsigned long out_of_use(const struct recorder *r)
+{
+    unsigned long count = 0;
+    size_t g;
+    for (g = 0; g < SEGMENTS; g++)
+        count += shr_unit_free(&r->geo, &r->unit, g) == 0 && shr_unit_listed(&r->geo, &r->unit, g) == 0 && !is_queued(r, g);
+    return count;
+}
+
+/* Records a winter's peaks on a new part, or as many as it has room for. Answers how many of the newest offered are not there. */
+static unsigned long pass_winter(struct recorder *r, int old)
+{
+    unsigned long gone;
+    r->old = old;
+    r->erases = 0;
+    first_time(r);
+    live(r, 1, WINTER);
+    show_part(r);
+    gone = missed(r);
+    printf("%s  %lu collections refused, %lu segments out of use, room for %zu pages, %lu peaks missed\n", old ? "old " : "dead",
+           r->tally.refused, out_of_use(r), shr_unit_room(&r->geo, &r->unit), gone);
+    return gone;
+}
+
+/* The same winter with each restore: by restore_dead every refused segment comes back and is collected, and no peak is missed; by the old
+ * restore each of them is lost, until a peak finds no room. Answers 0 when it went so. */
+static int winters(struct recorder *r)
+{
+    const struct tally *t = &r->tally;
+    uint64_t start = seed;
+    unsigned long gone = pass_winter(r, 0), peaks = t->peaks;
+    int good = gone == 0 && peaks == WINTER && out_of_use(r) == 0 && t->refused > SEGMENTS && t->collected >= t->refused;
+    seed = start;
+    gone = pass_winter(r, 1);
+    good = good && gone == 1 && t->full == 1 && t->refused > 0 && out_of_use(r) >= t->refused;
+    printf("%s: %lu peaks of %d recorded; by the old restore %lu, and no room for the next\n", good ? "ok" : "failed", peaks, WINTER, t->peaks);
+    return good ? 0 : 1;
 }
 
 static unsigned long option(int argc, char **argv, const char *name, unsigned long otherwise)
@@ -473,6 +577,7 @@ int main(int argc, char **argv)
     r.states = option(argc, argv, "states", 0) != 0;
     r.careless = option(argc, argv, "careless", 0) != 0;
     r.sync = option(argc, argv, "sync", 1) != 0;
+    r.winter = option(argc, argv, "winter", 0) != 0;
     r.dir = ".";
     for (i = 1; i < argc; i++)
         if (strncmp(argv[i], "dir=", 4) == 0) r.dir = argv[i] + 4;
@@ -481,6 +586,7 @@ int main(int argc, char **argv)
     printf("seed %lu\n", start);
     printf("unit: %d segments of %d pages of %d bytes, segment 5 bad; room for %d peaks of %d bytes; %zu bytes of memory beside the flash\n",
            SEGMENTS, PAGES, PAGE, SENSORS * RING, PEAK, shr_unit_memory(&r.geo));
+    if (r.winter) return winters(&r);
     first_time(&r);
     while (cut < cuts) {
         r.unit.fuse = any(span);

@@ -11,8 +11,8 @@
 //! extremes (right geometries at their limits), words (all tables of tiny devices), files (all
 //! checkpoints of tiny devices), numbers (sizes and CRC-32), and those of `PARTS`. A difference is
 //! printed with the shortest run that still shows it, and the exit status is 1.
-//! `--announce` prints each call before it is made (its told call, or a restore's other one, follows unannounced), for a
-//! port that would not return.
+//! `--announce` prints each call before it is made, for a port that would not return; its told
+//! call, or a restore's other one, follows unannounced.
 
 #[path = "plain.rs"]
 mod plain;
@@ -503,8 +503,8 @@ fn compare_told(
     Some(Difference { field: format!("new numbers beside old: {}", found.field), ..found })
 }
 
-/// The two restores beside each other: the same answer, and the same left but for the queue's words,
-/// its length and the flags, in which only restores that are done may differ.
+/// The two restores beside each other: the same answer, and the same left but for the queue's
+/// words, its length and the flags, in which only restores that are done may differ.
 fn compare_beside(geo: &Geometry, one: &Outcome, other: &Outcome) -> Option<Difference> {
     let (mut one, mut other) = (one.clone(), other.clone());
     if one.answer == 0 && other.answer == 0 {
@@ -1822,10 +1822,14 @@ fn nth_tables(digits: &[&[u32]], index: usize, words: usize) -> Poke {
 
 // ---------------------------------------------------------------- all checkpoints of tiny devices
 
+/// n, p, w and e of devices; one has addresses past p.
+const SMALLEST: [(u64, u64, u64, u64); 6] =
+    [(1, 1, 0, 1), (1, 2, 1, 2), (1, 2, 2, 2), (3, 1, 0, 3), (2, 2, 1, 3), (3, 2, 1, 3)];
+
 impl Driver {
-    /// Every map and all free counts with a right CRC: what both restores leave, and some calls after.
+    /// Every map and all free counts, the CRC right: what both restores leave, and some calls then.
     fn files(&mut self) -> Going {
-        for (n, p, w, e) in [(1, 1, 0, 1), (1, 2, 1, 2), (1, 2, 2, 2), (3, 1, 0, 3), (2, 2, 1, 3), (3, 2, 1, 3)] {
+        for (n, p, w, e) in SMALLEST {
             let geo = Geometry { n, p, s: 1, w, e, limit: 1 };
             let mut place = self.fresh(&geo, vec![0; n as usize])?;
             let words: Vec<u32> = (0..=(n << w) as u32).chain([EMPTY]).collect();
@@ -1834,14 +1838,14 @@ impl Driver {
             digits.resize((e + n) as usize, &frees);
             for index in 0..digits.iter().map(|values| values.len()).product() {
                 let file = nth(&digits, index).into_iter().enumerate();
-                let mut pokes: Vec<Poke> = file.map(|(i, word)| Poke::Word(44 + 4 * i, word)).collect();
-                pokes.push(Poke::Seal);
-                self.restored_file(&mut place, pokes, index)?;
+                let words = file.map(|(i, word)| Poke::Word(44 + 4 * i, word));
+                self.restored_file(&mut place, words.chain([Poke::Seal]).collect(), index)?;
             }
         }
         Ok(())
     }
 
+    /// Every eighth file is kept with the dead queued.
     fn restored_file(&mut self, place: &mut Place, pokes: Vec<Poke>, index: usize) -> Going {
         if index % 8 > 0 {
             return self.aside(place, pokes, Restore).map(|_| ());
@@ -2337,7 +2341,8 @@ fn besides_work(place: &Place) -> Result<u64, String> {
     let (geo, mut found) = (place.state.geo, 0);
     for file in [place.state.lent.file.clone(), Vec::new()] {
         let lent = Lent { file, ..place.state.lent.clone() };
-        let (one, other) = (by_reading(&geo, &Restore, &lent), by_reading(&geo, &RestoreDead, &lent));
+        let restored = |call| by_reading(&geo, &call, &lent);
+        let (one, other) = (restored(Restore), restored(RestoreDead));
         if compare_beside(&geo, &one, &other).is_some() {
             return Err("a difference of the two restores".into());
         }
@@ -2497,6 +2502,7 @@ fn dead_examples() -> Vec<Example> {
     let mut three = pages(&[0, 0, 0, 0, 0, 0]);
     three.push((vec![Poke::Encoded], RestoreDead, 0));
     let (file, _, answer) = by_hand(0, [2, 3, EMPTY, 0, 0], 0);
+    let one = vec![(file, RestoreDead, answer)];
     let mut e4 = pages(&[0, 1, 2, 0]);
     e4.push((vec![], Collect, -14));
     e4.push((vec![Poke::Encoded], RestoreDead, 0));
@@ -2505,7 +2511,7 @@ fn dead_examples() -> Vec<Example> {
         Example { name: "three dead", geo: more, script: three, seen: |_, lent| {
             lent.tab[12..18] == [0, 1, 2, 1, 1, 1] && lent.tab[19] == 3
         } },
-        Example { name: "one dead", geo, script: vec![(file, RestoreDead, answer)], seen: |_, lent| {
+        Example { name: "one dead", geo, script: one, seen: |_, lent| {
             lent.tab[9..13] == [0, 0, 1, 0] && lent.tab[14] == 1
         } },
         Example { name: "E4 restored", geo, script: e4, seen: |before, lent| {
@@ -2544,7 +2550,7 @@ fn selftest(seed: u64) -> Result<(), String> {
     let right = Side::Wrong(Numbers::Old, no_fault);
     let mut driver = Driver::new(right, seed, f64::INFINITY, 50_000);
     examples_hold(&mut driver)?;
-    println!("E1 to E10, the trace's calls and three restores of the dead hold of the plain reading");
+    println!("E1 to E10, the trace's calls and three of M-109 hold of the plain reading");
     let mut changes = 0;
     for _ in 0..20 {
         let Ok(place) = driver.some_place() else { return Err("no place".into()) };
@@ -2590,14 +2596,13 @@ const ANSWERS: [(&str, &[&str]); 14] = [
     ("restore_dead", &["0", "-22", "-1", "-2", "-3", "-4", "-5", "-6", "-7", "-8", "-9"]),
 ];
 
-/// What restore_dead queued when it was done, and what calls answered that came to its queue; runs of
-/// `all` must meet each so often. A live one is full and has a list of length p.
-const AFTER_DEAD: [(&str, &[&str]); 3] = [
-    ("queued by it", &["none", "one", "more", "not a live one"]),
-    ("collected after it", &["0", "above 0", "-14", "-5"]),
-    ("written after it", &["0", "above 0", "-14", "-5"]),
+/// What restore_dead queued when it was done, and what calls answered that came to its queue; runs
+/// of `all` must meet each so often. A live one is full and has a list of length p.
+const AFTER_DEAD: [(&str, u64, &[&str]); 3] = [
+    ("queued by it", 1_000, &["none", "one", "more", "not a live one"]),
+    ("collected after it", 10, &["0", "above 0", "-14", "-5"]),
+    ("written after it", 10, &["0", "above 0", "-14", "-5"]),
 ];
-const OFTEN: u64 = 100;
 
 struct Options {
     part: String,
@@ -2646,16 +2651,19 @@ impl Driver {
                 self.part(part)?;
             }
         }
+        self.files()?;
+        self.some_runs()?;
         self.extremes()?;
         self.words()?;
-        self.files()?;
         loop {
-            for _ in 0..200 {
-                self.run()?;
-            }
+            self.some_runs()?;
             let (_, part) = self.rng.pick(&PARTS);
             self.part(part)?;
         }
+    }
+
+    fn some_runs(&mut self) -> Going {
+        (0..200).try_for_each(|_| self.run())
     }
 
     fn chosen(&mut self, name: &str) -> Going {
@@ -2676,23 +2684,22 @@ impl Driver {
 
     /// How many restores queued a dead segment.
     fn queued_some(&self) -> u64 {
-        let times = |class: &str| self.tally.get(&("queued by it", class.into())).copied().unwrap_or(0);
+        let times = |class: &str| self.tally.get(&("queued by it", class.into())).unwrap_or(&0);
         times("one") + times("more")
     }
 
     /// Prints what was met; false when `all` missed an answer, or a strange one came.
     fn print_tally(&self, all: bool) -> bool {
         let mut right = true;
-        let rows = || ANSWERS.into_iter().chain(AFTER_DEAD);
-        for (entry, classes) in rows() {
+        let once = ANSWERS.into_iter().map(|(entry, classes)| (entry, 1, classes));
+        let rows: Vec<_> = once.chain(AFTER_DEAD).collect();
+        for &(entry, owed, classes) in &rows {
             let met: Vec<String> = (self.tally.iter().filter(|((name, _), _)| *name == entry))
                 .map(|((_, class), times)| format!("{class}: {times}"))
                 .collect();
             println!("  {entry:22} {}", met.join("  "));
-            let owed = if AFTER_DEAD.iter().any(|(name, _)| *name == entry) { OFTEN } else { 1 };
             for class in classes.iter().filter(|_| all) {
-                let times = self.tally.get(&(entry, class.to_string())).copied().unwrap_or(0);
-                if times < owed {
+                if *self.tally.get(&(entry, class.to_string())).unwrap_or(&0) < owed {
                     println!("  NOT MET: {entry} {class}");
                     right = false;
                 }
@@ -2700,7 +2707,7 @@ impl Driver {
         }
         for (entry, class) in self.tally.keys() {
             let listed = |list: &[&str]| list.contains(&&class[..]);
-            if !rows().any(|(name, list)| name == *entry && listed(list)) {
+            if !rows.iter().any(|(name, _, list)| name == entry && listed(list)) {
                 println!("  STRANGE: {entry} {class}");
                 right = false;
             }
@@ -2737,8 +2744,10 @@ fn compare_part(options: &Options) -> bool {
     let stopped = driver.chosen(&options.part);
     let seconds = driver.started.elapsed().as_secs_f64();
     let met = driver.print_tally(all);
-    let (calls, told, restores, some) = (driver.calls, driver.told, driver.restores, driver.queued_some());
-    println!("{told} of the calls made in the new numbers too; {restores} restores with and without the dead queued, {some} of them queued some");
+    let (calls, told) = (driver.calls, driver.told);
+    let (restores, some) = (driver.restores, driver.queued_some());
+    print!("{told} of the calls made in the new numbers too; ");
+    println!("{restores} restores under both names, {some} of them queued the dead");
     println!("seed {}, {calls} calls compared in {seconds:.1} s", options.seed);
     match stopped {
         Err(Stop::Found(report)) => {

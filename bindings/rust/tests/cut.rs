@@ -1,6 +1,6 @@
 //! Power cuts. A checkpoint is taken, calls follow, and the power goes at every device operation in turn, between two of them or in the
-//! middle of one. Whatever is left in memory, the checkpoint restored over the flash gives every page back, so long as no segment that
-//! holds a page mapped at the checkpoint was begun to be erased.
+//! middle of one. Whatever is left in memory, the checkpoint restored over the flash by either name gives every page back, so long as no
+//! segment that holds a page mapped at the checkpoint was begun to be erased.
 use shillingreed::{Geometry, OwnedFtl, Refusal};
 
 struct Rng(u64);
@@ -25,6 +25,7 @@ enum Call {
     List(usize),
     Threshold(u64, usize),
     RestoreSame,
+    RestoreSameDead,
 }
 
 fn any_call(rng: &mut Rng, geo: Geometry) -> Call {
@@ -38,7 +39,8 @@ fn any_call(rng: &mut Rng, geo: Geometry) -> Call {
         6 | 7 => Call::Collect,
         8 if rng.below(2) == 0 => Call::List(rng.below(3)),
         8 => Call::Threshold(rng.below(geo.n * geo.p) as u64, rng.below(3)),
-        _ => Call::RestoreSame,
+        _ if rng.below(2) == 0 => Call::RestoreSame,
+        _ => Call::RestoreSameDead,
     }
 }
 
@@ -49,6 +51,7 @@ fn run(unit: &mut OwnedFtl, call: &Call, file: &[u8]) -> Result<usize, Refusal> 
         Call::List(m) => unit.collect_list(*m),
         Call::Threshold(t, m) => unit.collect_threshold(*t, *m),
         Call::RestoreSame => unit.restore(file),
+        Call::RestoreSameDead => unit.restore_dead(file),
     }
 }
 
@@ -170,12 +173,14 @@ fn given_back(
 ) {
     seen.cuts += 1;
     forget(&mut unit, rng);
-    assert_eq!(unit.restore(file), Ok(0));
+    let mut old = unit.clone();
+    assert_eq!((unit.restore_dead(file), old.restore(file)), (Ok(0), Ok(0)));
     if !stands {
         seen.ended += 1;
         return;
     }
     assert_eq!(contents(&mut unit), held);
+    assert_eq!(contents(&mut old), held);
     seen.given_back += 1;
     seen.after_an_erase += usize::from(erased);
     goes_on(&mut unit, held, rng);
@@ -231,7 +236,7 @@ fn a_torn_formatting_of_an_empty_segment_takes_nothing() {
             torn(&mut cut, Op::Erase(0), &mut rng);
         }
         forget(&mut cut, &mut rng);
-        assert_eq!(cut.restore(&file), Ok(0));
+        assert_eq!(cut.restore_dead(&file), Ok(0));
         assert_eq!(contents(&mut cut), held);
     }
 }

@@ -1,4 +1,5 @@
-//! What docs/USING.md says of draining, of refused collections and of queueing by hand.
+//! What docs/USING.md says of draining, of refused collections and of the old restore, after which a segment may be left to the hand. The
+//! restore that queues them is in dead.rs.
 use shillingreed::{Geometry, OwnedFtl, Refusal, ENDLESS};
 
 const GEO: Geometry = Geometry { n: 4, p: 3, s: 4, w: 2, e: 6, limit: 9 };
@@ -19,7 +20,7 @@ fn contents(unit: &mut OwnedFtl) -> Vec<[u8; 4]> {
     (0..GEO.e).map(page).collect()
 }
 
-/// Puts a segment at the queue's end, as examples/recorder.c does.
+/// Puts a segment at the queue's end, past the calls.
 fn queue_by_hand(unit: &mut OwnedFtl, segment: usize) {
     let (queue, n) = (unit.geo.e + 3 * unit.geo.n, unit.geo.n);
     let (flags, length) = (queue + n, queue + 2 * n + 1);
@@ -44,7 +45,7 @@ fn refused_at_a_copy() -> OwnedFtl {
 }
 
 #[test]
-fn a_refused_copy_is_made_good_by_calls() {
+fn a_refused_copy_is_made_good_by_the_old_restore_and_a_write() {
     let mut unit = refused_at_a_copy();
     unit.write(4, &[]).unwrap(); // the flag is set: no write queues the segment
     assert!(unit.view().unwrap().queue().is_empty());
@@ -76,7 +77,7 @@ fn queueing_by_hand_what_is_not_full_is_found_out() {
 }
 
 #[test]
-fn a_full_segment_without_pages_is_queued_by_hand_alone() {
+fn after_the_old_restore_a_full_segment_without_pages_is_queued_by_hand_alone() {
     let mut unit = with(GEO, &[0, 1, 2, 0, 1, 2]);
     let file = unit.checkpoint().unwrap();
     assert_eq!(unit.restore(&file), Ok(0));
@@ -145,8 +146,8 @@ fn an_old_checkpoint_may_leave_a_page_out_of_order() {
     assert_eq!(unit.write(0, &[1; 4]), Ok(4));
     let first = unit.checkpoint().unwrap();
     assert_eq!((unit.write(0, &[2; 4]), unit.write(0, &[3; 4]), unit.collect()), (Ok(4), Ok(4), Ok(0)));
-    assert_eq!((unit.restore(&first), unit.write(0, &[4; 4])), (Ok(0), Ok(4)));
-    assert_eq!((unit.restore(&none), &unit.marks[..3]), (Ok(0), &[0, 1, 0][..]));
+    assert_eq!((unit.restore_dead(&first), unit.write(0, &[4; 4])), (Ok(0), Ok(4)));
+    assert_eq!((unit.restore_dead(&none), &unit.marks[..3]), (Ok(0), &[0, 1, 0][..]));
     assert_eq!(unit.write(0, &[5; 4]), Err(Refusal::Device)); // page 0, below page 1
     assert_eq!(unit.write(0, &[5; 4]), Err(Refusal::Device)); // page 1, marked itself
     assert_eq!(unit.write(0, &[5; 4]), Ok(4));

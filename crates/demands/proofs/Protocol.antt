@@ -2,7 +2,7 @@
 -- holds no page mapped at it. Wherever the power goes, the stored checkpoint gives back exactly what it held, and while a new one is being stored,
 -- either of the two.
 use Prim.Native.Nat.{ℕ, suc, _-_}
-use mathlib.Core.Path.{_≡_, sym, subst}
+use mathlib.Core.Path.{_≡_, refl, sym, subst}
 use mathlib.Core.List.{List, [], _∷_}
 use lib.ListN.{length}
 use Rattle.model.specs.Lists.{zeros}
@@ -16,6 +16,7 @@ use Rattle.model.specs.Entry.{Recorder, recorder, lent}
 use Rattle.model.specs.declared.Queueing.{Queueing}
 use Rattle.model.specs.History.{Call, Format, Open, Read, Write, Collect, CollectList, CollectThreshold, Encode, Restore, lit, run, after, opsOf, mapIn}
 use Rattle.model.specs.History.{Spares, Cut, Keeps, running, lost, Since, checkpoint, lent-fuse, called, off, cut, regained, GivesBack}
+use Rattle.model.proofs.Entry.{read-unit}
 use Rattle.model.proofs.Cut.{encoded, cut-restores}
 use Rattle.demands.specs.Given.{tab}
 use Rattle.demands.specs.Protocol.{Drained, Saved, Allows, Next, Careful, saved, lends-fuse, calls, regains}
@@ -79,6 +80,14 @@ module _ (G : Geometry) (bad : List ℕ) where
         → (q : Queueing) → Careful G bad r₀ file (after G bad (Restore q file (zeros (pages G) ∷ [])) (recorder w u f))
     regained-careful E h c n i f k w u a b q =
         regains h c n i f k w u q (zeros (pages G) ∷ []) (protocol-restores E h c n i f k w u a b q .answer)
+
+    -- between two calls the stored checkpoint may be restored at any time, power on: to what it gives back that is a cut
+    pub restored-careful : Saved G bad r₀ file → {r : Recorder} → Careful G bad r₀ file r
+        → length (r .words) ≡ tabWords G → length (r .used) ≡ pages G
+        → (q : Queueing) → Careful G bad r₀ file (after G bad (Restore q file (zeros (pages G) ∷ [])) r)
+    restored-careful E {r} h a b q =
+        regained-careful E h (Read 0 0 [] []) tt 0 (r .flash) (subst (λ os. Cut G 0 os (r .flash) (r .flash)) (sym (read-unit G 0 0 (lent (lit endless r) [] []) .1)) refl)
+        (r .words) (r .used) a b q
 
     -- While a new checkpoint is being stored, either of the two: the old one gives what it held, the new one what the unit holds now.
     pub either-restores : Saved G bad r₀ file → {r : Recorder} → Careful G bad r₀ file r → (file′ : List ℕ) → Saved G bad r file′

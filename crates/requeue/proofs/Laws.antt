@@ -3,7 +3,6 @@ use Prim.Native.Nat.{ℕ, suc, _+_, _-_, _≤_, _<_}
 use native.Mathlib.Omega.{arith}
 use mathlib.Core.Path.{_≡_, refl, sym, ap, _∙_}
 use mathlib.Core.Bool.{Bool, true, false, cond, _&&_}
-use mathlib.Core.Logic.{_≢_}
 use mathlib.Core.List.{List, []}
 use lib.Dec.{eqb, ltb}
 use lib.ListN.{length, set, length-set}
@@ -18,8 +17,8 @@ module _ (G : Geometry) (w u : List ℕ) (g : ℕ) (hg : g < G .n) where
   dead-is : dead? G g (view G w u) ≡ (eqb (at w (oFree G + g)) 0 && ltb (at w (oLens G + g)) (G .p))
   dead-is = rw (free-at G w u g 0 hg, lens-at G w u g 0 hg)
 
-  pub not-full : at w (oFree G + g) ≢ 0 → false ≡ dead? G g (view G w u)
-  not-full h = sym (dead-is ∙ ap (λ b. b && ltb (at w (oLens G + g)) (G .p)) (ne-eqb _ 0 h))
+  pub not-full : 0 < at w (oFree G + g) → false ≡ dead? G g (view G w u)
+  not-full h = sym (dead-is ∙ ap (λ b. b && ltb (at w (oLens G + g)) (G .p)) (ne-eqb (at w (oFree G + g)) 0 (λ e. omega arith)))
 
   pub if-full : at w (oFree G + g) ≡ 0 → ltb (at w (oLens G + g)) (G .p) ≡ dead? G g (view G w u)
   if-full h = sym (dead-is ∙ ap (λ b. b && ltb (at w (oLens G + g)) (G .p)) (eq-eqb _ 0 h))

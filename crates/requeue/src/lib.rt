@@ -21,7 +21,7 @@ fn is_dead(geo: Geometry, g: usize, tab: &[u32]) -> bool
     let f = e + g;
     let m = e + n * 2 + g;
     let p = geo.p as u32;
-    if tab[f] != 0 {
+    if 0 < tab[f] {
         return false;
     }
     tab[m] < p

@@ -1,4 +1,5 @@
 -- `is_dead` meets its contract: the two words that it looks at are the definition's.
+use native.Mathlib.Omega.{arith}
 use denote.Ref.{now}
 use Rattle.requeue.proofs.Laws.{not-full, if-full}
 use borrow.Author.Needs.{needs}
@@ -27,7 +28,7 @@ shared-slice-read-if1 : tie.Need-shared-slice-read-if1
 shared-slice-read-if1 c = search needs
 
 returns : tie.Need-returns
-returns c u = let s = c .before .before .before in not-full (s .args .geo) (now (s .args .tab)) u (s .args .g) (s .pre .1 .1) (c .if1 .taken)
+returns c u = let s = c .before .before .before in not-full (s .args .geo) (now (s .args .tab)) u (s .args .g) (s .pre .1 .1) (omega (arith, c .if1 .taken))
 
 mul-result : tie.Need-mul-result
 mul-result c = search needs
@@ -36,7 +37,7 @@ shared-slice-read-result : tie.Need-shared-slice-read-result
 shared-slice-read-result c = search needs
 
 returns-2 : tie.Need-returns-2
-returns-2 c u = let s = c .before .before .before .before in if-full (s .args .geo) (now (s .args .tab)) u (s .args .g) (s .pre .1 .1) (c .before .if1 .left)
+returns-2 c u = let s = c .before .before .before .before in if-full (s .args .geo) (now (s .args .tab)) u (s .args .g) (s .pre .1 .1) (omega (arith, c .before .if1 .left))
 
 pub is-dead-spec : {M : Type 1} → statement M
 is-dead-spec =
