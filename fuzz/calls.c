@@ -19,18 +19,18 @@ void feature(uint32_t group, uint64_t value) {
 #define ALL B(BAD), W(TAB), B(USED), FLASH, B(PAGE), B(SEEN), W(ORDER)
 
 static int64_t answer_of(const struct call *c) {
-    bool told = c->numbers == NEW;
+    bool new = c->choice == NEW;
     switch (c->entry) {
     case FORMAT: return shr_format(G, FLASH);
     case OPEN: return shr_open(G, W(TAB), B(USED));
     case READ: return shr_read(G, c->sector, c->length, W(TAB), B(USED), B(BYTES), B(OUT), B(SEEN));
     case WRITE:
-        return (told ? shr_write_told : shr_write)(G, c->sector, c->length, B(XS), B(BAD), W(TAB), B(USED), FLASH, B(PAGE), B(SEEN));
-    case COLLECT: return (told ? shr_collect_told : shr_collect)(G, ALL);
-    case COLLECT_LIST: return (told ? shr_collect_list_told : shr_collect_list)(G, c->m, ALL);
-    case COLLECT_THRESHOLD: return (told ? shr_collect_threshold_told : shr_collect_threshold)(G, c->threshold, c->m, ALL);
+        return (new ? shr_write_told : shr_write)(G, c->sector, c->length, B(XS), B(BAD), W(TAB), B(USED), FLASH, B(PAGE), B(SEEN));
+    case COLLECT: return (new ? shr_collect_told : shr_collect)(G, ALL);
+    case COLLECT_LIST: return (new ? shr_collect_list_told : shr_collect_list)(G, c->m, ALL);
+    case COLLECT_THRESHOLD: return (new ? shr_collect_threshold_told : shr_collect_threshold)(G, c->threshold, c->m, ALL);
     case ENCODE: return shr_encode(G, W(TAB), B(USED), B(CHECKPOINT), B(SEEN));
-    default: return shr_restore(G, B(CHECKPOINT), W(TAB), B(USED), B(TAKEN));
+    default: return (new ? shr_restore_dead : shr_restore)(G, B(CHECKPOINT), W(TAB), B(USED), B(TAKEN));
     }
 }
 
@@ -74,6 +74,16 @@ static uint64_t state_met(const struct call *c) {
            few(*(uint64_t *)lent[FUSE].before) * 8192;
 }
 
+// How many segments a restore queued, and how many full ones it did not.
+static uint64_t queue_left(const struct call *c) {
+    const struct geo *g = &c->geo;
+    if (c->entry != RESTORE || c->answer || wrong_size(c)) return 0;
+    struct tables a = after(g);
+    uint64_t full = 0;
+    for (size_t i = 0; i < g->n; i++) full += a.free[i] == 0;
+    return 1 + few(*a.queued) * 8 + few(full - *a.queued) * 64;
+}
+
 static uint64_t last; // name and answer of the call before, in this input
 
 void calls_start(void) {
@@ -82,17 +92,18 @@ void calls_start(void) {
 
 static void note(const struct call *c, const struct verdict *v) {
     uint64_t answer = c->answer < 0 ? -(uint64_t)c->answer : 200 + few(c->answer);
-    uint64_t names = NUMBERS * ENTRIES, name = c->numbers * ENTRIES + c->entry;
+    uint64_t names = CHOICES * ENTRIES, name = c->choice * ENTRIES + c->entry;
     uint64_t now = answer * names + name;
     feature(1, now);
     feature(2, v->cause * names + name);
     feature(3, changed_slices(c) * names + name);
     feature(4, last << 16 | now);
     feature(5, state_met(c) << 16 | now);
+    feature(6, queue_left(c) * names + name);
     last = now;
 }
 
-static uint64_t tally[NUMBERS][ENTRIES][128];
+static uint64_t tally[CHOICES][ENTRIES][128];
 
 static void report_name(const char *name, const uint64_t *answers) {
     fprintf(stderr, "calls  %-22s", name);
@@ -104,7 +115,7 @@ static void report_name(const char *name, const uint64_t *answers) {
 
 // How often each name gave each answer; every count of bytes or passes is one column.
 void calls_report(void) {
-    for (int k = 0; k < NUMBERS; k++)
+    for (int k = 0; k < CHOICES; k++)
         for (int i = 0; i < ENTRIES; i++)
             if (entry_name[k][i]) report_name(entry_name[k][i], tally[k][i]);
 }
@@ -122,5 +133,5 @@ void call(struct call *c) {
     check(c, &v);
     check_sizes(c);
     if (c->entry == WRITE) check_crc(c);
-    tally[c->numbers][c->entry][c->answer < 0 ? -c->answer : 0]++;
+    tally[c->choice][c->entry][c->answer < 0 ? -c->answer : 0]++;
 }

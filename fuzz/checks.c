@@ -5,12 +5,13 @@
 #include <stdlib.h>
 #include <string.h>
 
-const char *const entry_name[NUMBERS][ENTRIES] = {
+const char *const entry_name[CHOICES][ENTRIES] = {
     [OLD] = {"format", "open", "read", "write", "collect", "collect_list", "collect_threshold", "encode", "restore"},
     [NEW] = {[WRITE] = "write_told",
              [COLLECT] = "collect_told",
              [COLLECT_LIST] = "collect_list_told",
-             [COLLECT_THRESHOLD] = "collect_threshold_told"},
+             [COLLECT_THRESHOLD] = "collect_threshold_told",
+             [RESTORE] = "restore_dead"},
 };
 
 _Noreturn void failed(const struct call *c, const char *what) {
@@ -18,7 +19,7 @@ _Noreturn void failed(const struct call *c, const char *what) {
     fprintf(stderr,
             "FAILED %s: %s\n  answer %lld; n %llu p %llu s %llu w %llu e %llu limit %llu; sector %llu length %llu m %llu "
             "threshold %llu\n",
-            entry_name[c->numbers][c->entry], what, (long long)c->answer, (unsigned long long)g->n, (unsigned long long)g->p,
+            entry_name[c->choice][c->entry], what, (long long)c->answer, (unsigned long long)g->n, (unsigned long long)g->p,
             (unsigned long long)g->s, (unsigned long long)g->w, (unsigned long long)g->e, (unsigned long long)g->limit,
             (unsigned long long)c->sector, (unsigned long long)c->length, (unsigned long long)c->m,
             (unsigned long long)c->threshold);
@@ -196,20 +197,32 @@ static void check_restored_map(const struct call *c, const uint8_t *words) {
     }
 }
 
+// The old name queues nothing, the new one the dead segments, ascending; those that are queued have the flag, and no others.
+static void check_requeued(const struct call *c) {
+    const struct geo *g = &c->geo;
+    struct tables a = after(g);
+    size_t queued = 0;
+    for (size_t i = 0; c->choice == NEW && i < g->n; i++)
+        if (dead(g, &a, i)) DEMAND(c, queued < *a.queued && a.queue[queued++] == i, "restoring: queue");
+    DEMAND(c, *a.queued == queued, "restoring: queue");
+    for (size_t i = 0; i < g->n; i++)
+        DEMAND(c, a.flags[i] == (c->choice == NEW && dead(g, &a, i)), "restoring: flag");
+}
+
 // Called with tables known to be sound, so used marks, lists' content and empty slots need no second look.
 static void check_restored(const struct call *c) {
     const struct geo *g = &c->geo;
     struct tables a = after(g);
     const uint8_t *file = lent[CHECKPOINT].before;
     DEMAND(c, *a.alloc == long_at(file + 8), "restoring: allocation segment");
-    DEMAND(c, *a.queued == 0, "restoring: queue");
     check_restored_map(c, file + 44);
     for (size_t i = 0; i < g->n; i++) {
         DEMAND(c, a.free[i] == word_at(file + 44 + 4 * (g->e + i)), "restoring: free count");
-        DEMAND(c, a.valid[i] == a.lens[i] && !a.flags[i], "restoring: valid count or flag");
+        DEMAND(c, a.valid[i] == a.lens[i], "restoring: valid count");
         for (size_t k = 1; k < a.lens[i]; k++)
             DEMAND(c, a.lists[i * g->p + k - 1] < a.lists[i * g->p + k], "restoring: list not ascending");
     }
+    check_requeued(c);
 }
 
 static bool changes_tables(int entry) {
@@ -251,7 +264,7 @@ static void check_left(const struct call *c, const struct verdict *v) {
 // A count, or one of the refusals that a collection has when it runs.
 static bool is_collections_answer(const struct call *c) {
     for (int cause = COPY_NO_ROOM; cause <= ERASE; cause++)
-        if (c->answer == refusal(c->numbers, cause)) return true;
+        if (c->answer == refusal(c->choice, cause)) return true;
     return c->answer >= 0;
 }
 

@@ -22,6 +22,6 @@ _Noreturn void failed(const struct call *c, const char *what);
         if (!(ok)) failed(c, what);                                                                                    \
     } while (0)
 
-extern const char *const entry_name[NUMBERS][ENTRIES]; // no name: the entry has no such choice
+extern const char *const entry_name[CHOICES][ENTRIES]; // no name: the entry has no such choice
 
 #endif

@@ -54,8 +54,8 @@ static void damage_answer(struct call *c) {
 }
 
 // One name's answer turned into another.
-static void turn(struct call *c, int numbers, int entry, int64_t from, int64_t to) {
-    if (c->numbers == numbers && c->entry == entry && c->answer == from) c->answer = to;
+static void turn(struct call *c, int choice, int entry, int64_t from, int64_t to) {
+    if (c->choice == choice && c->entry == entry && c->answer == from) c->answer = to;
 }
 
 // No room, answered in the other choice's number or as if the device had refused.
@@ -115,6 +115,18 @@ static void damage_device(struct call *c) {
     }
 }
 
+// What is queued changes no answer.
+static void damage_restored(struct call *c) {
+    switch (broken()) {
+    case 95: // restore_dead: not the answer that 01 and 02 give
+        if (done_well(c, RESTORE) && c->choice == NEW) c->answer = *after(&c->geo).queued;
+        break;
+    case 96: // restore_dead: not the answer that 01 and 02 give
+        turn(c, NEW, RESTORE, -9, 0);
+        break;
+    }
+}
+
 static void damage_lending(const struct call *c) {
     const struct slice *x = &lent[c->entry == FORMAT ? MARKS : TAB];
     const volatile uint8_t *end = x->at + x->len * x->elem;
@@ -130,6 +142,9 @@ static void damage_lending(const struct call *c) {
         break;
     case 8: // a call that changes nothing changed something
         if (c->answer == -61 && lent[OUT].len) flip(OUT, 0);
+        break;
+    case 97: // restore_dead: a call that changes nothing changed something
+        if (c->entry == RESTORE && c->choice == NEW && c->answer < 0 && c->answer != -22) flip(TAB, 0);
         break;
     case 9: // scratch changed
         if (done_well(c, ENCODE)) flip(SEEN, 0);
@@ -274,7 +289,7 @@ static void damage_restore(const struct call *c) {
     case 39: // restoring: map
         drop_one(g, &a);
         break;
-    case 40: // restoring: valid count or flag
+    case 40: // restoring: valid count
         if (a.valid[0] < g->p - a.free[0]) a.valid[0]++;
         break;
     case 41: // restoring: list not ascending
@@ -290,8 +305,69 @@ static void damage_restore(const struct call *c) {
     case 43: // restoring: free count
         if (a.free[0]) a.used[g->p - a.free[0]--] = 1;
         break;
-    case 44: // restoring: queue
-        if (!a.free[0]) a.flags[0] = 1, *a.queued = 1;
+    case 44: // restore: restoring: queue
+        if (c->choice == OLD && !a.free[0]) a.flags[0] = 1, *a.queued = 1;
+        break;
+    }
+}
+
+// Which segments a restore with that break takes for dead.
+static bool taken_for_dead(const struct geo *g, const struct tables *t, size_t i) {
+    switch (broken()) {
+    case 87: // restore_dead: restoring: queue
+        return t->free[i] == 0; // a full live one
+    case 88: // restore_dead: the tables left are not sound
+        return t->free[i] <= 1 && t->lens[i] < g->p; // one with a free page
+    case 89: // restore_dead: restoring: queue
+        return dead(g, t, i) && t->lens[i] == 0; // none with something live
+    case 90: // restore_dead: restoring: queue
+        return dead(g, t, i) && t->lens[i] != 0; // none with nothing live
+    case 91: // restore_dead: restoring: queue
+        return dead(g, t, i) && i + 1 < g->n; // not the last segment
+    case 92: // restore_dead: restoring: queue
+        return false; // none
+    default: return dead(g, t, i);
+    }
+}
+
+static void queue_again(const struct geo *g, struct tables *t) {
+    memset(t->queue, 0, 4 * g->n);
+    memset(t->flags, 0, 4 * g->n);
+    *t->queued = 0;
+    for (size_t i = 0; i < g->n; i++) {
+        if (!taken_for_dead(g, t, i)) continue;
+        t->queue[(*t->queued)++] = i;
+        t->flags[i] = 1;
+    }
+}
+
+static void turn_round(uint32_t *x, size_t len) {
+    for (size_t i = 0; i < len / 2; i++) {
+        uint32_t early = x[i];
+        x[i] = x[len - 1 - i];
+        x[len - 1 - i] = early;
+    }
+}
+
+// What a restore queues, by the new name, and in 93 by the old one.
+static void damage_queue(const struct call *c) {
+    const struct geo *g = &c->geo;
+    struct tables a = after(g);
+    if (!done_well(c, RESTORE) || c->choice != (broken() == 93 ? OLD : NEW)) return;
+    switch (broken()) {
+    case 85: // restore_dead: restoring: queue
+        turn_round(a.queue, *a.queued);
+        break;
+    case 86: // restore_dead: the tables left are not sound
+        if (*a.queued) a.flags[a.queue[0]] = 0;
+        break;
+    case 87 ... 92:
+    case 93: // restore: restoring: queue
+        queue_again(g, &a);
+        break;
+    case 94: // restore_dead: restoring: flag
+        for (size_t i = 0; i < g->n; i++)
+            if (!a.free[i]) a.flags[i] = 1;
         break;
     }
 }
@@ -430,10 +506,10 @@ static void damage_refused(struct call *c) {
             if (a.flags[i] && a.valid[i] < c->geo.p) a.valid[i]++;
         break;
     case 62: // not the number of the refusal's cause
-        c->answer = refusal(c->numbers, ERASE);
+        c->answer = refusal(c->choice, ERASE);
         break;
     case 63: // not the number of the refusal's cause
-        if (c->answer == -5) c->answer = refusal(c->numbers, COPY_NO_ROOM);
+        if (c->answer == -5) c->answer = refusal(c->choice, COPY_NO_ROOM);
         break;
     case 64: // an erase is refused without cause
         if (c->answer == -5) c->geo.limit = UINT32_MAX, lend_endless();
@@ -452,12 +528,14 @@ void damage(struct call *c) {
     damage_answer(c);
     damage_room(c);
     damage_device(c);
+    damage_restored(c);
     damage_lending(c);
     if (broken() < 14 || wrong_size(c)) return;
     damage_read_and_file(c);
     damage_format_and_open(c);
     damage_write(c);
     damage_restore(c);
+    damage_queue(c);
     damage_contents(c);
     damage_passes(c);
     damage_flash(c);

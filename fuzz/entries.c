@@ -1,4 +1,4 @@
-// The target: an input's bytes become a geometry, what is lent, and calls over all nine entries, in old and new numbers.
+// The target: an input's bytes become a geometry, what is lent, and calls over all nine entries, by either name where there are two.
 #include "blocks.h"
 #include "calls.h"
 #include "input.h"
@@ -148,8 +148,8 @@ static void run(struct call *c, uint8_t place) {
     odd_geo = geo;
 }
 
-static void transfer(int entry, int numbers) {
-    struct call c = {.entry = entry, .numbers = numbers};
+static void transfer(int entry, int choice) {
+    struct call c = {.entry = entry, .choice = choice};
     int buffer = entry == READ ? OUT : XS;
     uint64_t offset;
     c.sector = number(geo.e - 1) * geo.s;
@@ -163,11 +163,11 @@ static void transfer(int entry, int numbers) {
 
 // Whole pages written one after another, to fill segments and the queue with few bytes of input: until a refusal, or as a careful
 // caller does, until a segment's worth of pages is left.
-static void burst(int numbers) {
+static void burst(int choice) {
     uint64_t e = geo.e ? geo.e : 1, s = least(geo.s, 1024), l = within(e - 1), count = 1 + within(95);
     uint8_t seed = byte();
     for (uint64_t i = 0; i < count && lent_bytes < MOST_LENT; i++) {
-        struct call c = {.entry = WRITE, .numbers = numbers, .sector = (l + i) % e * geo.s, .length = s};
+        struct call c = {.entry = WRITE, .choice = choice, .sector = (l + i) % e * geo.s, .length = s};
         lent[XS].size = s;
         fill(XS, 0, s, seed + i, 91);
         run(&c, seed + i);
@@ -177,8 +177,8 @@ static void burst(int numbers) {
     }
 }
 
-static void collection(int entry, int numbers) {
-    struct call c = {.entry = entry, .numbers = numbers};
+static void collection(int entry, int choice) {
+    struct call c = {.entry = entry, .choice = choice};
     if (entry == COLLECT_THRESHOLD) c.threshold = number(geo.n * geo.p);
     if (entry != COLLECT) c.m = number(geo.n);
     run(&c, byte());
@@ -195,8 +195,8 @@ static void encoding(void) {
     x->size = c.answer >= 0 ? (size_t)c.answer : kept;
 }
 
-static void plain(int entry) {
-    struct call c = {.entry = entry};
+static void plain(int entry, int choice) {
+    struct call c = {.entry = entry, .choice = choice};
     run(&c, byte());
 }
 
@@ -273,8 +273,8 @@ static void set_bad(void) {
     poke(BAD, within(lent[BAD].size ? lent[BAD].size - 1 : 0), x & 1 ? x : 0, true);
 }
 
-// A file with a right head for this geometry, nothing mapped and all pages free.
-static void plain_file(void) {
+// A file with a right head for this geometry, nothing mapped, and the same free count for every segment.
+static void plain_file(uint32_t free) {
     struct slice *x = &lent[CHECKPOINT];
     if (!good(&geo) || checkpoint_bytes(&geo) > x->cap) return;
     x->size = checkpoint_bytes(&geo);
@@ -282,7 +282,7 @@ static void plain_file(void) {
     put_word(x->before, 0x50465443);
     put_word(x->before + 4, 1);
     for (int i = 0; i < 4; i++) put_long(x->before + 8 + 8 * i, head[i]);
-    for (size_t i = 0; i < geo.e + geo.n; i++) put_word(x->before + 44 + 4 * i, i < geo.e ? EMPTY : geo.p);
+    for (size_t i = 0; i < geo.e + geo.n; i++) put_word(x->before + 44 + 4 * i, i < geo.e ? EMPTY : free);
     put_word(x->before + 40, file_crc(x->before, x->size));
 }
 
@@ -306,10 +306,11 @@ static void change_length(struct slice *x) {
     if (x->size > old) memset(x->before + old, filler, x->size - old);
 }
 
+// Kind 95 begins with a file of full segments: most are dead, a long queue.
 static void damage_file(void) {
     struct slice *x = &lent[CHECKPOINT];
     uint8_t kind = byte();
-    if (x->size < 44 || kind % 32 == 31) plain_file();
+    if (x->size < 44 || kind % 32 == 31) plain_file(kind == 95 ? 0 : geo.p);
     if (x->size < 48) return;
     switch (kind % 8) {
     case 0: x->before[within(x->size - 1)] ^= 1 << byte() % 8; break;
@@ -332,20 +333,20 @@ static void change(uint8_t kind) {
     else damage_file();
 }
 
-// Six bits of the byte say what is done, the highest one in which numbers a write or a collection answers.
+// Six bits of the byte say what is done, the highest one by which of two names a write, a collection or a restore is called.
 static void step(void) {
     uint8_t x = byte(), kind = x % 64;
-    int numbers = x < 128 ? OLD : NEW;
-    if (kind < 15) transfer(WRITE, numbers);
-    else if (kind < 18) burst(numbers);
+    int choice = x < 128 ? OLD : NEW;
+    if (kind < 15) transfer(WRITE, choice);
+    else if (kind < 18) burst(choice);
     else if (kind < 23) transfer(READ, OLD);
-    else if (kind < 29) collection(COLLECT, numbers);
-    else if (kind < 34) collection(COLLECT_LIST, numbers);
-    else if (kind < 38) collection(COLLECT_THRESHOLD, numbers);
+    else if (kind < 29) collection(COLLECT, choice);
+    else if (kind < 34) collection(COLLECT_LIST, choice);
+    else if (kind < 38) collection(COLLECT_THRESHOLD, choice);
     else if (kind < 42) encoding();
-    else if (kind < 47) plain(RESTORE);
-    else if (kind < 49) plain(OPEN);
-    else if (kind < 50) plain(FORMAT);
+    else if (kind < 47) plain(RESTORE, choice);
+    else if (kind < 49) plain(OPEN, OLD);
+    else if (kind < 50) plain(FORMAT, OLD);
     else change(kind - 50);
 }
 
@@ -368,10 +369,10 @@ int LLVMFuzzerTestOneInput(const uint8_t *data, size_t size) {
     pick_geometry();
     start_slices();
     uint8_t start = byte();
-    if (start & 7) plain_file();
+    if (start & 7) plain_file(geo.p);
     if (start < 240) {
-        plain(FORMAT);
-        plain(OPEN);
+        plain(FORMAT, OLD);
+        plain(OPEN, OLD);
     }
     for (int i = 0; i < MOST_CALLS && !input_ended() && lent_bytes < MOST_LENT; i++) step();
     return 0;

@@ -12,8 +12,8 @@ static struct verdict expected_transfer(const struct call *c, const struct table
     if (c->sector % g->s + c->length > g->s) return says(-22, 41);
     if (c->entry == READ) return t->map[l] == EMPTY ? says(-61, 42) : says((int64_t)c->length, 43);
     size_t a = find(g, t, lent[BAD].before);
-    int64_t device = refusal(c->numbers, DEVICE);
-    if (a == NONE) return says(refusal(c->numbers, NO_ROOM), 44);
+    int64_t device = refusal(c->choice, DEVICE);
+    if (a == NONE) return says(refusal(c->choice, NO_ROOM), 44);
     if (*(uint64_t *)lent[FUSE].before == 0) return says(device, 45);
     if (lent[MARKS].before[a]) return says(device, 46);
     if (marked_above(g, lent[MARKS].before, a)) return says(device, 49);

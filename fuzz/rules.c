@@ -23,13 +23,18 @@ bool is_collection(int entry) {
 }
 
 // The answer that a cause gets; the choice changes only what 01 answers with 14.
-int64_t refusal(int numbers, int cause) {
+int64_t refusal(int choice, int cause) {
     switch (cause) {
     case NO_ROOM:
-    case COPY_NO_ROOM: return numbers == NEW ? -28 : -14;
-    case COPY_DEVICE: return numbers == NEW ? -121 : -14;
+    case COPY_NO_ROOM: return choice == NEW ? -28 : -14;
+    case COPY_DEVICE: return choice == NEW ? -121 : -14;
     default: return -5;
     }
+}
+
+// 02: "free count 0 and a list shorter than p".
+bool dead(const struct geo *g, const struct tables *t, size_t i) {
+    return t->free[i] == 0 && t->lens[i] < g->p;
 }
 
 bool good(const struct geo *g) {

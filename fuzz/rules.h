@@ -10,14 +10,14 @@
 
 enum { FORMAT, OPEN, READ, WRITE, COLLECT, COLLECT_LIST, COLLECT_THRESHOLD, ENCODE, RESTORE, ENTRIES };
 enum { NOT_LENT, READ_ONLY, LENT };
-enum { OLD, NEW, NUMBERS }; // 01's numbers; those of 02's M-101, for writes and collections
+enum { OLD, NEW, CHOICES }; // numbers of a write or a collection: 01's, or 02's M-101's; a restore's queue: empty, or M-109's
 enum { NO_ROOM, DEVICE, COPY_NO_ROOM, COPY_DEVICE, ERASE }; // why a write, and why a collection is refused when it runs
 
 struct geo { uint64_t n, p, s, w, e, limit; };
 
 struct call {
     int entry;
-    int numbers;
+    int choice; // OLD where the entry has one name
     struct geo geo;
     uint64_t sector, length, m, threshold;
     int64_t answer;
@@ -32,7 +32,8 @@ struct tables {
 extern const uint8_t role[ENTRIES][SLICES];
 
 bool is_collection(int entry);
-int64_t refusal(int numbers, int cause);
+int64_t refusal(int choice, int cause);
+bool dead(const struct geo *g, const struct tables *t, size_t i);
 bool good(const struct geo *g);
 uint64_t right(const struct geo *g, int slice);
 uint64_t checkpoint_bytes(const struct geo *g);

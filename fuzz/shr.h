@@ -1,5 +1,6 @@
 // The static library's entries, as C sees them. A slice is a pointer and its number of elements.
-// A name with _told does what the name without it does and answers in the new numbers of 02's M-101.
+// A name with _told does what the name without it does and answers in the new numbers of 02's M-101. The one with _dead does what the
+// name without it does and queues the dead segments of 02's M-109.
 #ifndef SHR_H
 #define SHR_H
 #include <stddef.h>
@@ -16,6 +17,7 @@
 #define COLLECTION                                                                                                     \
     READ8(bad), LENT32(tab), LENT8(used), LENT8(bytes), LENT8(marks), LENT32(counts), uint64_t *fuse, LENT8(page),     \
         LENT8(seen), LENT32(order)
+#define RESTORING READ8(file), LENT32(tab), LENT8(used), LENT8(taken)
 
 int64_t shr_format(GEO, LENT8(bytes), LENT8(marks), LENT32(counts), uint64_t *fuse);
 int64_t shr_open(GEO, LENT32(tab), LENT8(used));
@@ -29,7 +31,8 @@ int64_t shr_collect_list_told(GEO, size_t m, COLLECTION);
 int64_t shr_collect_threshold(GEO, uint64_t threshold, size_t m, COLLECTION);
 int64_t shr_collect_threshold_told(GEO, uint64_t threshold, size_t m, COLLECTION);
 int64_t shr_encode(GEO, READ32(tab), READ8(used), LENT8(buffer), LENT8(seen));
-int64_t shr_restore(GEO, READ8(file), LENT32(tab), LENT8(used), LENT8(taken));
+int64_t shr_restore(GEO, RESTORING);
+int64_t shr_restore_dead(GEO, RESTORING);
 
 size_t shr_tab_words(GEO);
 size_t shr_used_bytes(GEO);

@@ -594,8 +594,8 @@ struct State {
     geo: Geometry,
     lent: Lent,
     saved: Vec<Vec<u8>>,
-    /// The tables go back to a restore that queued the dead, and queued some.
-    requeued: bool,
+    /// The dead segments that a restore queued and that are queued still.
+    requeued: Vec<u32>,
 }
 
 /// Right sizes; tables and flash all zero; buffers with room and a pattern.
@@ -610,7 +610,7 @@ fn start(geo: &Geometry, bad: &[u8]) -> State {
     lent.data = pattern(geo.s as usize, 1);
     lent.out = pattern(geo.s as usize + 3, 200);
     lent.buffer = pattern(plain::checkpoint_bytes(geo) + 5, 100);
-    State { geo: *geo, lent, saved: Vec::new(), requeued: false }
+    State { geo: *geo, lent, saved: Vec::new(), requeued: Vec::new() }
 }
 
 fn pattern(length: usize, first: u8) -> Vec<u8> {
@@ -768,7 +768,7 @@ fn take(side: Side, state: &mut State, step: &Step) -> Result<Made, Difference> 
     };
     let requeued = dead.and_then(|left| requeued(&geo, left));
     if step.keep {
-        state.requeued = stays_requeued(state, step, plain.answer, requeued);
+        state.requeued = still_queued(state, step, &plain);
         state.lent = plain.lent;
         if step.call == Encode && plain.answer > 0 && state.saved.len() < REMEMBERED {
             state.saved.push(state.lent.buffer[..plain.answer as usize].to_vec());
@@ -777,13 +777,17 @@ fn take(side: Side, state: &mut State, step: &Step) -> Result<Made, Difference> 
     Ok(Made { answer, requeued })
 }
 
-/// Whether the tables after a kept step go back to a restore that queued dead segments.
-fn stays_requeued(state: &State, step: &Step, answer: i64, requeued: Option<Requeued>) -> bool {
-    match (step.call, answer) {
-        (Open | Restore, 0) => false,
-        (RestoreDead, 0) => requeued.is_some_and(|full| full.queued > 0),
-        _ => state.requeued && !gives_tables(step),
+/// The dead segments that a restore queued and that are queued still after a kept step.
+fn still_queued(state: &State, step: &Step, left: &Outcome) -> Vec<u32> {
+    let done = step.call == RestoreDead && left.answer == 0;
+    if !done && (state.requeued.is_empty() || gives_tables(step)) {
+        return Vec::new();
     }
+    let queue = &left.lent.tab[at_queue(&state.geo)..][..queued(&state.geo, &left.lent)];
+    if done {
+        return queue.to_vec();
+    }
+    state.requeued.iter().copied().filter(|g| queue.contains(g)).collect()
 }
 
 fn gives_tables(step: &Step) -> bool {
@@ -940,7 +944,7 @@ impl Driver {
         }
     }
 
-    /// A write or a collection that comes to the queue of a restore.
+    /// A write or a collection that comes to dead segments which a restore queued.
     fn count_after(&mut self, call: &Call, answer: i64) {
         let entry = if collects(call) { "collected after it" } else { "written after it" };
         if !matches!(answer, -22 | -117) && call.told().is_some() {
@@ -968,8 +972,7 @@ impl Driver {
         if self.announce {
             eprintln!("{:?} {:?} {step:?}", place.state.geo, place.bad);
         }
-        let state = &place.state;
-        let after = state.requeued && queued(&state.geo, &state.lent) > 0 && !gives_tables(&step);
+        let after = !place.state.requeued.is_empty() && !gives_tables(&step);
         match take(self.side, &mut place.state, &step) {
             Ok(made) => {
                 let answer = old(made.answer);
@@ -2596,8 +2599,8 @@ const ANSWERS: [(&str, &[&str]); 14] = [
     ("restore_dead", &["0", "-22", "-1", "-2", "-3", "-4", "-5", "-6", "-7", "-8", "-9"]),
 ];
 
-/// What restore_dead queued when it was done, and what calls answered that came to its queue; runs
-/// of `all` must meet each so often. A live one is full and has a list of length p.
+/// What restore_dead queued when it was done, and what calls answered that came to segments queued
+/// by it; runs of `all` must meet each so often. A live one is full and has a list of length p.
 const AFTER_DEAD: [(&str, u64, &[&str]); 3] = [
     ("queued by it", 1_000, &["none", "one", "more", "not a live one"]),
     ("collected after it", 10, &["0", "above 0", "-14", "-5"]),

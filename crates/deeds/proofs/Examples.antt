@@ -75,10 +75,11 @@ sample-text =
     ∷ 109 ∷ 32 ∷ 49 ∷ 46 ∷ 49 ∷ 32 ∷ 49 ∷ 46 ∷ 48 ∷ 32 ∷ 45 ∷ 10
     ∷ []
 
--- five writes of a byte to page 0, a checkpoint, this record, a collection, two writes more
+-- five writes of a byte to page 0
 abbrev five : List ℕ
 five = 0 ∷ 0 ∷ 1 ∷ 97 ∷ 0 ∷ 0 ∷ 1 ∷ 97 ∷ 0 ∷ 0 ∷ 1 ∷ 97 ∷ 0 ∷ 0 ∷ 1 ∷ 97 ∷ 0 ∷ 0 ∷ 1 ∷ 97 ∷ []
 
+-- and behind them a checkpoint, this record, a collection, two writes more
 abbrev filled : List ℕ → List ℕ
 filled restore = five ++ (4 ∷ restore) ++ (2 ∷ 0 ∷ 0 ∷ 1 ∷ 97 ∷ 0 ∷ 0 ∷ 1 ∷ 97 ∷ [])
 

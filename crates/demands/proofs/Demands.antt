@@ -1,6 +1,6 @@
 -- The demands, of the functions that run. Each premise `PromiseIn N …` is the `ensures` of `write` or a collection in crates/ftl/src/lib.rt, letter for
 -- letter; for the other calls N is `Old`, and it follows from their `ensures` by `format-runs` to `restore-runs`. None of these functions has a
--- `requires`. The second demand is the `ensures` themselves, in the old numbers, each function equal to its definition, and the runs beside the Rust.
+-- `requires`. The second demand is the `ensures` themselves, under the old choices, each function equal to its definition, and the runs beside the Rust.
 use Prim.Native.Nat.{ℕ, suc, _≤_}
 use mathlib.Core.Path.{_≡_, refl, sym, ap, _∙_, subst}
 use mathlib.Core.Logic.{_⊎_, inl, inr, _≢_}

@@ -1,6 +1,6 @@
 -- The premises of Leaves, Signs, Seen, Fresh, Marked, Kept, PowerOn, Served, Told and Queued can be met: two units of device A and A3, by computation. Exactly
 -- asks nothing.
-use Prim.Native.Nat.{ℕ, _≤_}
+use Prim.Native.Nat.{ℕ, _≤_, _<_}
 use native.Mathlib.Omega.{arith}
 use mathlib.Core.Path.{_≡_, refl}
 use mathlib.Core.List.{List, [], _∷_, _++_}
@@ -11,15 +11,15 @@ use Rattle.model.specs.declared.Geometry.{Geometry}
 use Rattle.model.specs.declared.Numbers.the-variants.{Old}
 use Rattle.model.specs.declared.Answer.the-variants.{Moved, Refused}
 use Rattle.model.specs.declared.Cause.the-variants.{Wrong, Unmapped, NoRoom, Device, CopyNoRoom, CopyDevice, Erase, Reason}
-use Rattle.model.specs.Lists.{without, pushFront, insertBy, sortBy, splice, total, occ, all, every, blank, upTo, zeros}
+use Rattle.model.specs.Lists.{without, pushFront, insertBy, sortBy, splice, total, occ, all, every, blank, upTo, bit, zeros}
 use Rattle.model.specs.Numbers.{good?, endless}
-use Rattle.model.specs.Tables.{queueOf, view, packed}
+use Rattle.model.specs.Tables.{at, queueOf, view, packed}
 use Rattle.model.specs.Sound.{names, soundb}
 use Rattle.model.specs.Device.{Flash, flash, burn, mayProgram, mayErase, formatFrom, formattedFlash}
 use Rattle.model.specs.PageMap.{clearFrom, findFrom, find, invalidate, forget}
 use Rattle.model.specs.PageWrite.{oldPage, writeAt, writePage}
 use Rattle.model.specs.PageGc.{sorted, finishOf, drain, collectOf, collect, collectMore, collectList, collectThreshold}
-use Rattle.model.specs.Checkpoint.{fresh, usedBy, word, long, words, wordAt, longAt, wordsAt, head, file, reasonOf, welcome, settleAll, restored, queueDead, deadOnes}
+use Rattle.model.specs.Checkpoint.{fresh, usedBy, word, long, words, wordAt, longAt, wordsAt, head, file, reasonOf, welcome, settleAll, restored, queueDead, dead?, deadOnes}
 use Rattle.model.specs.Entry.{Recorder, recorder, unless, guarded, clean, formatting, opening, read, write, collection, listCollection, thresholdCollection, encoding, restoring}
 use Rattle.model.specs.declared.Queueing.{Queueing}
 use Rattle.model.specs.declared.Queueing.the-variants.{Empty, Dead}
@@ -145,7 +145,8 @@ regained =
 pub record Requeued : Type 0 where
   queue : queueOf (tab A (after A bad (Restore Dead kept (zeros 4 ∷ [])) dark)) ≡ 0 ∷ []
   dead : deadOnes A 2 0 (tab A unit) ≡ 0 ∷ []
-  saved : queueOf (tab A (after A bad (Restore Dead kept (zeros 4 ∷ [])) dark)) ≡ deadOnes A 2 0 (tab A unit)
+  saved : (queueOf (tab A (after A bad (Restore Dead kept (zeros 4 ∷ [])) dark)) ≡ deadOnes A 2 0 (tab A unit))
+      × ((g : ℕ) → g < 2 → at (tab A (after A bad (Restore Dead kept (zeros 4 ∷ [])) dark) .flags) g ≡ bit (dead? A g (tab A unit)))
 
 requeued : Requeued
 unfolding

@@ -28,7 +28,7 @@ use Rattle.model.proofs.Guard.{guarded-passes, unless-passes}
 use Rattle.ftl.proofs.Guards.{by, all-sizes, bad-geometry, bad-size, unless-fails}
 use Rattle.ftl.proofs.Opening.{words-are, marks-are}
 
--- what a file says is queued by nobody yet
+-- tables just made of a file have nothing queued
 pub none-queued : (G : Geometry) (b w u : List ℕ) → view G w u ≡ restoredFrom G b → at w (oQueued G) ≡ 0
 none-queued G b w u v = sym (queued-at G w u) ∙ ap (λ (t : Tables). t .queued) v ∙ restored-queued G (mapOf G b) (freeOf G b) (allocOf G b)
 
@@ -36,31 +36,31 @@ none-queued G b w u v = sym (queued-at G w u) ∙ ap (λ (t : Tables). t .queued
 pub file-small : (G : Geometry) → Good G → fileSize G < 9223372036854775808
 file-small G K = omega (arith, slots K, K .e≤, K .n≤)
 
-module _ (G : Geometry) (q : Queueing) (b : List ℕ) (x : Lent) where
-  -- what restoring tests beside the geometry
-  abbrev pub restoreTests : List Bool
-  restoreTests = tablesFit G x ∷ clean (pages G ∷ []) (x .scratch) ∷ []
+-- what restoring tests beside the geometry
+abbrev pub restoreTests : Geometry → Lent → List Bool
+restoreTests G x = tablesFit G x ∷ clean (pages G ∷ []) (x .scratch) ∷ []
 
+module _ (G : Geometry) (q : Queueing) (b : List ℕ) (x : Lent) where
   pub restoring-wrong : good? G ≡ false → Promise (restoring G q b x) x (number Old (Refused Wrong))
   unfolding restoring
-  restoring-wrong = bad-geometry G restoreTests true true true x _
+  restoring-wrong = bad-geometry G (restoreTests G x) true true true x _
 
-  pub restoring-size : every restoreTests ≡ false → Promise (restoring G q b x) x (number Old (Refused Wrong))
+  pub restoring-size : every (restoreTests G x) ≡ false → Promise (restoring G q b x) x (number Old (Refused Wrong))
   unfolding restoring
-  restoring-size = bad-size G restoreTests true true true x _
+  restoring-size = bad-size G (restoreTests G x) true true true x _
 
-  module _ (g : good? G ≡ true) (e : every restoreTests ≡ true) where
+  module _ (g : good? G ≡ true) (e : every (restoreTests G x) ≡ true) where
     pub restoring-reason : (k : ℕ) (r : ℤ) → k ≡ reasonOf G b → k ≢ 0 → r ≡ number Old (Refused (Reason k)) → Promise (restoring G q b x) x r
     unfolding restoring
     restoring-reason k r i h n =
-        by (guarded-passes _ true true true x _ (all-sizes G restoreTests g e) refl refl refl ∙ unless-fails _ _ x _ (ne-eqb (reasonOf G b) 0 (λ z. h (i ∙ z))))
+        by (guarded-passes _ true true true x _ (all-sizes G (restoreTests G x) g e) refl refl refl ∙ unless-fails _ _ x _ (ne-eqb (reasonOf G b) 0 (λ z. h (i ∙ z))))
         (record { left-is = refl; answer-is = n ∙ ap (λ m. number Old (Refused (Reason m))) i })
 
     pub restoring-done : reasonOf G b ≡ 0 → (w u : List ℕ) (s : List (List ℕ)) → length w ≡ tabWords G → view G w u ≡ restoredBy G q b → s ≡ x .scratch
         → Promise (restoring G q b x) (lent (recorder w u (x .unit .flash)) (x .buffer) s) (pos 0)
     unfolding restoring
     restoring-done r w u s h v z =
-        by (guarded-passes _ true true true x _ (all-sizes G restoreTests g e) refl refl refl ∙ unless-passes _ _ x _ (eq-eqb (reasonOf G b) 0 r))
+        by (guarded-passes _ true true true x _ (all-sizes G (restoreTests G x) g e) refl refl refl ∙ unless-passes _ _ x _ (eq-eqb (reasonOf G b) 0 r))
         (record { left-is = cc (words-are G w u _ h v, marks-are G w u _ h v, z); answer-is = refl })
 
 module _ (G : Geometry) (x : Lent) where

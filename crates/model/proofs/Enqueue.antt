@@ -4,7 +4,7 @@ use native.Mathlib.Numerals.{add-one}
 use native.Mathlib.Omega.{arith}
 use mathlib.Core.Path.{_≡_, ap}
 use mathlib.Core.List.{List, _∷_}
-use lib.ListN.{length, take, drop, length-set}
+use lib.ListN.{length, take, drop, set, length-set}
 use lib.Seq.{take-take, length-take-le}
 use Rattle.model.specs.Lists.{occ, pushFront, zeros}
 use Rattle.model.specs.Numbers.{Geometry}
@@ -39,7 +39,7 @@ module _ (G : Geometry) (t : Tables) (S : Counted G t) (g : ℕ) (seg : g < G.n)
       sum-lt G.n (λ x. occ x (queueOf t)) g (λ x. omega (arith, S .once x, S .flag≤ x)) seg (omega (arith, S .once g)) in
       omega (arith, counted-queue G t S .size)
 
-  lt-queue : t .queued < length (t .queue)
+  pub lt-queue : t .queued < length (t .queue)
   lt-queue = rw (S .sized .queue) has-room
 
   enqueue-length : length (t′ .queue) ≡ length (t .queue)
@@ -54,15 +54,16 @@ module _ (G : Geometry) (t : Tables) (S : Counted G t) (g : ℕ) (seg : g < G.n)
       (rw (enqueue-queue, occ-cons g g (queueOf t)) (omega (arith, bit-same g, S .once g)))
       (λ j n. rw (enqueue-queue, occ-cons j g (queueOf t)) (omega (arith, bit-other j g n, S .once j)))
 
-  enqueue-flag≤ : (j : ℕ) → at (t′ .flags) j ≤ 1
-  enqueue-flag≤ = set-ind (λ j x. x ≤ 1) (t .flags) g 1 0 (in-flags (S .sized) seg) (omega arith) (λ j _. S .flag≤ j)
+  -- the flags with that of g set, and the queue's length one more, wherever g goes in it
+  pub flag-set≤ : (j : ℕ) → at (set (t .flags) g 1) j ≤ 1
+  flag-set≤ = set-ind (λ j x. x ≤ 1) (t .flags) g 1 0 (in-flags (S .sized) seg) (omega arith) (λ j _. S .flag≤ j)
 
-  enqueue-full : (j : ℕ) → 0 < at (t′ .flags) j → at (t .free) j ≡ 0
-  enqueue-full =
+  pub flag-set-full : (j : ℕ) → 0 < at (set (t .flags) g 1) j → at (t .free) j ≡ 0
+  flag-set-full =
       set-ind (λ j x. 0 < x → at (t .free) j ≡ 0) (t .flags) g 1 0 (in-flags (S .sized) seg) (λ _. none-free) (λ j _. S .full j)
 
-  enqueue-fits : t .queued + 1 ≤ G.n
-  enqueue-fits = omega (arith, has-room)
+  pub one-more-fits : t .queued + 1 ≤ G.n
+  one-more-fits = omega (arith, has-room)
 
   enqueue-behind : drop (t .queued + 1) (t′ .queue) ≡ zeros (G.n - (t .queued + 1))
   enqueue-behind =
@@ -72,4 +73,4 @@ module _ (G : Geometry) (t : Tables) (S : Counted G t) (g : ℕ) (seg : g < G.n)
   -- what else sound tables say is as before
   pub enqueue-sound : Counted G (enqueue G g t)
   enqueue-sound =
-      search (length-set, enqueue-length, enqueue-once, enqueue-flag≤, enqueue-full, enqueue-fits, enqueue-behind)
+      search (length-set, enqueue-length, enqueue-once, flag-set≤, flag-set-full, one-more-fits, enqueue-behind)

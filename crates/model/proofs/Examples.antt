@@ -1,4 +1,4 @@
--- The marked examples of document 01, its trace, its limits, what its traps would get wrong, and 02's M-102: a table; and one for M-101's numbers. Each row's
+-- The marked examples of document 01, its trace, its limits, what its traps would get wrong, and 02's M-102 and M-109: a table; and one for M-101's numbers. Each row's
 -- calls are run through the public entries, and an equation, by computation, says what every call of every row answers and all that is left behind.
 use Prim.Native.Nat.{ℕ, _+_, _*_, _-_, _%_}
 use mathlib.Core.Path.{_≡_, refl}
@@ -353,12 +353,12 @@ table =
     (mem
     (tables (three 0 none 4) (three 0 0 0) (three 1 0 1) (six 1 1 1 1 1 1) (six 0 0 0 0 2 0) (three 1 0 1) (three 0 1 2) (three 1 1 1) 2 3)
     (flash (fill (six 255 255 255 255 255 255)) (six 0 0 0 0 0 0) (three 0 0 0) endless))
-    -- not one that is full and live, nor one with free pages
+    -- not one that is full and live, nor one with a dead page and a free one
     ∷ new A3
-    (loadDead (saved 0 (three 2 3 0) (three 0 0 2)) ∷ [])
+    (loadDead (saved 0 (three 2 3 0) (three 0 0 1)) ∷ [])
     (moved 0 ∷ [])
     (mem
-    (tables (three 2 3 0) (three 0 0 2) (three 1 2 0) (six 1 1 1 1 0 0) (six 2 0 0 1 0 0) (three 1 2 0) (three 0 0 0) (three 1 0 0) 0 1)
+    (tables (three 2 3 0) (three 0 0 1) (three 1 2 0) (six 1 1 1 1 1 0) (six 2 0 0 1 0 0) (three 1 2 0) (three 0 0 0) (three 1 0 0) 0 1)
     (flash (fill (six 255 255 255 255 255 255)) (six 0 0 0 0 0 0) (three 0 0 0) endless))
     -- a reason leaves all, under this choice too
     ∷ new A (page 0 1 ∷ loadDead (saved 1 (three none 2 none) (two 3 1)) ∷ []) (moved 4 ∷ refused 9 ∷ []) started

@@ -1,16 +1,16 @@
 -- What an entry is not lent, it neither looks at nor changes: the outcome over a whole recorder is the outcome over the lent part, with the
 -- rest as it was.
 use Prim.Native.Nat.{ℕ, zero, suc}
-use mathlib.Core.Path.{_≡_, refl, sym, ap, _∙_}
+use mathlib.Core.Path.{_≡_, refl, ap, _∙_}
 use mathlib.Core.Bool.{Bool, true, false, cond}
 use mathlib.Core.List.{List, [], _∷_}
 use lib.Dec.{eqb}
-use Rattle.model.specs.Numbers.{Geometry, good?, Cause, Reason, Moved}
+use Rattle.model.specs.Numbers.{Geometry, good?, Cause, Reason}
 use Rattle.model.specs.Lists.{every}
-use Rattle.model.specs.Tables.{Tables, view, pages}
+use Rattle.model.specs.Tables.{Tables, view}
 use Rattle.model.specs.Device.{Flash, flash, EraseSeg, State, state, Out, out, finish, behind, blanked, formatFrom}
 use Rattle.model.specs.Checkpoint.{Queueing, reasonOf}
-use Rattle.model.specs.Entry.{Recorder, recorder, Lent, lent, Outcome, outcome, unless, guarded, clean, tablesFit, flashFits, formatting, opening, read, encoding, restoring}
+use Rattle.model.specs.Entry.{Recorder, recorder, Lent, lent, Outcome, outcome, unless, guarded, flashFits, formatting, opening, read, encoding, restoring}
 
 -- an outcome with h done to what is left
 abbrev pub over : (Lent → Lent) → Outcome → Outcome
@@ -24,12 +24,12 @@ abbrev pub withTables : (w u : List ℕ) → Lent → Lent
 withTables w u x = lent (recorder w u (x .unit .flash)) (x .buffer) (x .scratch)
 
 module _ (h : Lent → Lent) where
-  unless-over : (b : Bool) (c : Cause) (x : Lent) (o : Outcome) → unless b c (h x) (over h o) ≡ over h (unless b c x o)
+  pub unless-over : (b : Bool) (c : Cause) (x : Lent) (o : Outcome) → unless b c (h x) (over h o) ≡ over h (unless b c x o)
   unfolding unless
   unless-over true c x o = refl
   unless-over false c x o = refl
 
-  guarded-over : (a b c d : Bool) (x : Lent) (o : Outcome) → guarded a b c d (h x) (over h o) ≡ over h (guarded a b c d x o)
+  pub guarded-over : (a b c d : Bool) (x : Lent) (o : Outcome) → guarded a b c d (h x) (over h o) ≡ over h (guarded a b c d x o)
   unfolding guarded unless
   guarded-over false b c d x o = refl
   guarded-over true false c d x o = refl
@@ -76,18 +76,6 @@ module _ (G : Geometry) where
   restoring-alone f q b x =
       ap (guarded _ true true true (withFlash f x)) (unless-over (withFlash f) (eqb (reasonOf G b) 0) (Reason (reasonOf G b)) x _)
       ∙ guarded-over (withFlash f) _ true true true x _
-
-  -- 02, M-109: "Refusals: none new." The choice is not seen in the answer
-  pub one-answer : (q q′ : Queueing) (b : List ℕ) (x : Lent) → restoring G q b x .answer ≡ restoring G q′ b x .answer
-  unfolding restoring
-  one-answer q q′ b x = ap (λ (o : Outcome). o .answer) (without-tables q ∙ sym (without-tables q′))
-    where
-      without-tables : (q : Queueing) → over (withTables [] []) (restoring G q b x)
-          ≡ guarded (every (good? G ∷ tablesFit G x ∷ clean (pages G ∷ []) (x .scratch) ∷ [])) true true true (withTables [] [] x)
-          (unless (eqb (reasonOf G b) 0) (Reason (reasonOf G b)) (withTables [] [] x) (outcome (withTables [] [] x) (Moved 0) []))
-      without-tables q =
-          sym (ap (guarded _ true true true (withTables [] [] x)) (unless-over (withTables [] []) (eqb (reasonOf G b) 0) (Reason (reasonOf G b)) x _)
-          ∙ guarded-over (withTables [] []) _ true true true x _)
 
   -- a read is lent the flash's bytes alone
   pub read-alone : (f : Flash) (sector len : ℕ) (w u b : List ℕ) (s : List (List ℕ))

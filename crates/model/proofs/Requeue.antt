@@ -1,13 +1,11 @@
 -- 02, M-109: queueing the full segments that hold dead pages keeps sound tables sound, and changes the queue and the flags alone.
 use Prim.Native.Nat.{ℕ, zero, suc, _+_, _-_, _≤_, _<_}
-use native.Mathlib.Nat.{add-zero}
 use native.Mathlib.Numerals.{add-one}
 use native.Mathlib.Omega.{arith}
 use mathlib.Core.Path.{_≡_, refl, sym, ap, _∙_}
-use mathlib.Core.Bool.{Bool, true, false, cond, _&&_}
+use mathlib.Core.Bool.{Bool, true, false, cond}
 use mathlib.Core.Logic.{_⊎_, inl, inr, _≢_}
 use mathlib.Core.List.{List, [], _∷_, _++_, append-nil, append-assoc}
-use lib.Dec.{eqb, ltb}
 use lib.ListN.{length, getD, take, drop, set, length-set}
 use lib.Seq.{take-suc-set, drop-set-lt, drop-drop, getD-set-same, getD-set-other}
 use borrow.Author.Tests.{eqb-true}
@@ -22,32 +20,20 @@ use Rattle.model.proofs.Slots.{same?, set-ind, drop-zeros, same-replica
 use Rattle.model.proofs.Counts.{bit-same, bit-other, occ-one, occ-append, sumTo, sum-same, count-all}
 use Rattle.model.proofs.Tests.{both}
 use Rattle.model.proofs.Reading.{in-flags, list-length, list-mapped}
-use Rattle.model.proofs.Enqueue.{has-room}
+use Rattle.model.proofs.Enqueue.{lt-queue, flag-set≤, flag-set-full, one-more-fits}
 use Rattle.model.proofs.Restore.{Back}
 use Rattle.model.proofs.Sealed.{accepted-sound}
 
 module _ (G : Geometry) (t : Tables) (S : Counted G t) (g : ℕ) (seg : g < G.n) (none-free : at (t .free) g ≡ 0) (off : at (t .flags) g ≡ 0) where
-  lt-queue : t .queued < length (t .queue)
-  lt-queue = rw (S .sized .queue) (has-room G t S g seg none-free off)
-
   pub last-queue : queueOf (queueLast G g t) ≡ queueOf t ++ (g ∷ [])
   last-queue =
-      ap (λ k. take k (set (t .queue) (t .queued) g)) (add-one (t .queued)) ∙ take-suc-set (t .queue) (t .queued) g lt-queue
+      ap (λ k. take k (set (t .queue) (t .queued) g)) (add-one (t .queued)) ∙ take-suc-set (t .queue) (t .queued) g (lt-queue G t S g seg none-free off)
 
   last-once : (j : ℕ) → occ j (queueOf (queueLast G g t)) ≤ at (queueLast G g t .flags) j
   last-once =
       set-ind (λ j x. occ j (queueOf (queueLast G g t)) ≤ x) (t .flags) g 1 0 (in-flags (S .sized) seg)
       (rw last-queue (omega (arith, occ-append g (queueOf t) (g ∷ []), occ-one g g, bit-same g, S .once g)))
       (λ j n. rw last-queue (omega (arith, occ-append j (queueOf t) (g ∷ []), occ-one j g, bit-other j g n, S .once j)))
-
-  last-flag≤ : (j : ℕ) → at (queueLast G g t .flags) j ≤ 1
-  last-flag≤ = set-ind (λ j x. x ≤ 1) (t .flags) g 1 0 (in-flags (S .sized) seg) (omega arith) (λ j _. S .flag≤ j)
-
-  last-full : (j : ℕ) → 0 < at (queueLast G g t .flags) j → at (t .free) j ≡ 0
-  last-full = set-ind (λ j x. 0 < x → at (t .free) j ≡ 0) (t .flags) g 1 0 (in-flags (S .sized) seg) (λ _. none-free) (λ j _. S .full j)
-
-  last-fits : t .queued + 1 ≤ G.n
-  last-fits = omega (arith, has-room G t S g seg none-free off)
 
   last-behind : drop (t .queued + 1) (set (t .queue) (t .queued) g) ≡ zeros (G.n - (t .queued + 1))
   last-behind =
@@ -59,7 +45,14 @@ module _ (G : Geometry) (t : Tables) (S : Counted G t) (g : ℕ) (seg : g < G.n)
       ∙ ap zeros e
 
   pub last-sound : Counted G (queueLast G g t)
-  last-sound = search (length-set, last-once, last-flag≤, last-full, last-fits, last-behind)
+  last-sound = search (
+    length-set,
+    last-once,
+    flag-set≤ G t S g seg none-free off,
+    flag-set-full G t S g seg none-free off,
+    one-more-fits G t S g seg none-free off,
+    last-behind,
+  )
 
 -- segment by segment from g up: the flags from there on are clear
 module _ (G : Geometry) where
@@ -101,7 +94,7 @@ module _ (G : Geometry) where
       go true ih = ih (settle G l a t) ∙ e l a t
       go false ih = ih t
 
-  restored-ahead : (words free : List ℕ) (alloc : ℕ) → Ahead 0 (restored G words free alloc)
+  pub restored-ahead : (words free : List ℕ) (alloc : ℕ) → Ahead 0 (restored G words free alloc)
   unfolding restored
   restored-ahead words free alloc x h = ap (λ z. at z x) (settled-stays (λ t. t .flags) (λ l a t. refl) 0 words (bare G free alloc)) ∙ same-replicate G.n 0 x
 
@@ -136,11 +129,11 @@ module _ (G : Geometry) where
   ones-with zero x t′ t = refl
   ones-with (suc k) x t′ t = ap (λ z. cond (dead? G x t) (x ∷ z) z) (ones-with k (suc x) t′ t)
 
-  dead-queue : (k g : ℕ) (t : Tables) → k + g ≡ G.n → Counted G t → Ahead g t → queueOf (queueDead G k g t) ≡ queueOf t ++ deadOnes G k g t
+  walk-queue : (k g : ℕ) (t : Tables) → k + g ≡ G.n → Counted G t → Ahead g t → queueOf (queueDead G k g t) ≡ queueOf t ++ deadOnes G k g t
   unfolding queueDead deadOnes
-  dead-queue zero g t e S h = sym (append-nil (queueOf t))
-  dead-queue (suc k) g t e S h =
-      go (dead? G g t) refl (dead-queue k (suc g) _ (omega arith) (dead-one g t (omega arith) S h (dead? G g t) refl) (dead-ahead g t h (dead? G g t)))
+  walk-queue zero g t e S h = sym (append-nil (queueOf t))
+  walk-queue (suc k) g t e S h =
+      go (dead? G g t) refl (walk-queue k (suc g) _ (omega arith) (dead-one g t (omega arith) S h (dead? G g t) refl) (dead-ahead g t h (dead? G g t)))
     where
       go : (b : Bool) → dead? G g t ≡ b
           → queueOf (queueDead G k (suc g) (cond b (queueLast G g t) t)) ≡ queueOf (cond b (queueLast G g t) t) ++ deadOnes G k (suc g) (cond b (queueLast G g t) t)
@@ -162,13 +155,13 @@ module _ (G : Geometry) where
       go true ih = ih (queueLast G g t) ∙ getD-set-other (t .flags) g x 1 0 (omega arith)
       go false ih = ih t
 
-  dead-flags : (k g : ℕ) (t : Tables) → k + g ≡ G.n → Counted G t → Ahead g t → (x : ℕ) → g ≤ x → x < G.n
+  walk-flags : (k g : ℕ) (t : Tables) → k + g ≡ G.n → Counted G t → Ahead g t → (x : ℕ) → g ≤ x → x < G.n
       → at (queueDead G k g t .flags) x ≡ bit (dead? G x t)
   unfolding queueDead
-  dead-flags zero g t e S h x a b = absurd (omega arith)
-  dead-flags (suc k) g t e S h x a b =
+  walk-flags zero g t e S h x a b = absurd (omega arith)
+  walk-flags (suc k) g t e S h x a b =
       go (dead? G g t) refl (same? x g)
-      (λ n. dead-flags k (suc g) _ (omega arith) (dead-one g t (omega arith) S h (dead? G g t) refl) (dead-ahead g t h (dead? G g t)) x n b)
+      (λ n. walk-flags k (suc g) _ (omega arith) (dead-one g t (omega arith) S h (dead? G g t) refl) (dead-ahead g t h (dead? G g t)) x n b)
     where
       here : (c : Bool) → dead? G g t ≡ c → at (queueDead G k (suc g) (cond c (queueLast G g t) t) .flags) g ≡ bit c
       here true q = flags-below k (suc g) (queueLast G g t) g (omega arith) ∙ getD-set-same (t .flags) g 1 0 (in-flags (S .sized) (omega arith))
@@ -188,11 +181,11 @@ module _ (G : Geometry) where
   module _ (words free : List ℕ) (alloc : ℕ) (S : Counted G (restored G words free alloc)) where
     pub queue-is : queueOf (requeued G Dead (restored G words free alloc)) ≡ deadOnes G G.n 0 (restored G words free alloc)
     queue-is =
-        dead-queue G.n 0 _ (omega arith) S (restored-ahead words free alloc)
+        walk-queue G.n 0 _ (omega arith) S (restored-ahead words free alloc)
         ∙ ap (λ k. take k (restored G words free alloc .queue) ++ deadOnes G G.n 0 (restored G words free alloc)) (restored-queued words free alloc)
 
     pub flags-are : (g : ℕ) → g < G.n → at (requeued G Dead (restored G words free alloc) .flags) g ≡ bit (dead? G g (restored G words free alloc))
-    flags-are g h = dead-flags G.n 0 _ (omega arith) S (restored-ahead words free alloc) g (omega arith) h
+    flags-are g h = walk-flags G.n 0 _ (omega arith) S (restored-ahead words free alloc) g (omega arith) h
 
   -- a list holds exactly the pages mapped into its segment: with one map, lists of one length
   same-lens : (t t′ : Tables) → Counted G t → Counted G t′ → t′ .map ≡ t .map → (g : ℕ) → g < G.n → at (t′ .lens) g ≡ at (t .lens) g
@@ -204,6 +197,9 @@ module _ (G : Geometry) where
           ∙ count-all G.e (listOf G t g) (λ l b. rw (S .sized .map) at (mapped-lt (t .map) l empty (list-mapped G t S l g h b .0)))
           ∙ list-length G t S g h
 
+  pub dead-back : (t t′ : Tables) → Counted G t → Counted G t′ → Back t t′ → (g : ℕ) → g < G.n → dead? G g t′ ≡ dead? G g t
+  dead-back t t′ S S′ B g h = cc (ap (λ xs. at xs g) (B .free), same-lens t t′ S S′ (B .map) g h)
+
   ones-same : (t t′ : Tables) → ((g : ℕ) → g < G.n → dead? G g t′ ≡ dead? G g t) → (k x : ℕ) → k + x ≡ G.n → deadOnes G k x t′ ≡ deadOnes G k x t
   unfolding deadOnes
   ones-same t t′ h zero x e = refl
@@ -211,5 +207,4 @@ module _ (G : Geometry) where
 
   -- tables that come back with their map and free counts have the same such segments
   pub ones-back : (t t′ : Tables) → Counted G t → Counted G t′ → Back t t′ → deadOnes G G.n 0 t′ ≡ deadOnes G G.n 0 t
-  ones-back t t′ S S′ B =
-      ones-same t t′ (λ g h. cc (ap (λ xs. at xs g) (B .free), same-lens t t′ S S′ (B .map) g h)) G.n 0 (omega arith)
+  ones-back t t′ S S′ B = ones-same t t′ (dead-back t t′ S S′ B) G.n 0 (omega arith)

@@ -1,4 +1,4 @@
--- Document 01, step 6 and "Checkpoint": opening, the file's bytes, the nine reasons, and what restoring makes of a file.
+-- Document 01, step 6 and "Checkpoint": opening, the file's bytes, the nine reasons, and what restoring makes of a file; 02, M-109: what it then queues.
 use Prim.Native.Nat.{ℕ, zero, suc, _+_, _*_, _-_, _/_, _%_}
 use mathlib.Core.Bool.{Bool, cond, _&&_}
 use mathlib.Core.List.{List, [], _∷_, _++_}
@@ -144,7 +144,7 @@ module _ (G : Geometry) where
   abbrev pub queueLast : ℕ → Tables → Tables
   queueLast g t = setQueue (set (t .queue) (t .queued) g) (setQueued (t .queued + 1) (setFlags (set (t .flags) g 1) t))
 
-  -- ".. on the queue, ascending, flags set": of k segments from g up
+  -- "… on the queue, ascending, flags set": of k segments from g up
   unfoldable pub queueDead : ℕ → ℕ → Tables → Tables
   queueDead zero g t = t
   queueDead (suc k) g t = queueDead k (suc g) (cond (dead? g t) (queueLast g t) t)

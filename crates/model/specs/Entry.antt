@@ -151,6 +151,7 @@ module _ (G : Geometry) where
 
   -- Lent: the file b, words, use marks; scratch: taken marks.
   -- "Lent tables of wrong size get 22 first." "Any reason leaves tables and flash unchanged." "success answers 0"
+  -- 02, M-109: the queue by the choice q; "Refusals: none new."
   unfoldable pub restoring : Queueing → List ℕ → Lent → Outcome
   restoring q b x =
       let t = restoredBy G q b in

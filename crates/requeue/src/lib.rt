@@ -45,7 +45,7 @@ fn queue_last(geo: Geometry, g: usize, tab: &mut [u32])
 }
 
 // The turn of segment g: of those before it, each is queued once at most.
-fn queue_dead(geo: Geometry, g: usize, tab: &mut [u32])
+fn queue_if_dead(geo: Geometry, g: usize, tab: &mut [u32])
     requires { ⌜ Good geo ⌝ }
     requires { ⌜ (length (now tab) ≡ tabWords geo) × (g < geo .n) × (at (now tab) (oQueued geo) ≤ g) ⌝ }
     ensures { λ _. ⌜ ((u : List ℕ) → view geo (now (tab .exit)) u
@@ -66,7 +66,7 @@ fn queue_all(geo: Geometry, tab: &mut [u32])
     while 0 < left {
         let n = geo.n;
         let g = n - left;
-        queue_dead(geo, g, tab);
+        queue_if_dead(geo, g, tab);
         left -= 1;
     }
 }

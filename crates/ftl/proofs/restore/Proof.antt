@@ -94,7 +94,7 @@ abbrev lent-at : tie.Start → Lent
 lent-at s = lent (recorder (s .args .tab .now) (s .args .used .now) noFlash) [] (s .args .taken .now ∷ [])
 
 abbrev tests : tie.Start → List Bool
-tests s = restoreTests (s .args .geo) (s .args .queueing) (s .args .file .now) (lent-at s)
+tests s = restoreTests (s .args .geo) (lent-at s)
 
 -- the geometry passed, and the sizes
 good : (c : tie.Else1) → good? (at-start (c .before) .args .geo) ≡ true

@@ -15,7 +15,7 @@ Inv-loop geo tab₀ left₀ tab left = (left ≤ geo .n) × (length tab ≡ leng
 abbrev μ-loop : tie.MeasureT-loop
 μ-loop geo tab₀ left₀ tab left = left
 
-abbrev at-loop : tie.After-queue-dead-arg Inv-loop μ-loop → tie.At-loop Inv-loop μ-loop
+abbrev at-loop : tie.After-queue-if-dead-arg Inv-loop μ-loop → tie.At-loop Inv-loop μ-loop
 at-loop c = c .before .before
 
 abbrev start : tie.At-loop Inv-loop μ-loop → tie.Start Inv-loop μ-loop
@@ -27,8 +27,8 @@ loop-holds c = let s = c .before in (omega arith, refl, walk-start (s .args .geo
 sub-g : tie.Need-sub-g Inv-loop μ-loop
 sub-g c = search needs
 
-queue-dead-requires : tie.Need-queue-dead-requires Inv-loop μ-loop
-queue-dead-requires c κs =
+queue-if-dead-requires : tie.Need-queue-if-dead-requires Inv-loop μ-loop
+queue-if-dead-requires c κs =
     let l = at-loop c .loop in
     let s = start (at-loop c) in
     (s .pre .0, (l .inv .1 ∙ s .pre .1 .0, omega arith, l .inv .2 .room))
@@ -45,8 +45,8 @@ loop-again c =
     let l = at-loop (q .before) .loop in
     let s = start (at-loop (q .before)) in (
       omega arith,
-      q .queue-dead .kept .1 .1 .0 ∙ l .inv .1,
-      walk-more (s .args .geo) (now (s .args .tab)) (l .left) (omega arith) (l .inv .0) (l .tab) (q .queue-dead .last .1 .1 .0) (l .inv .2) (q .queue-dead .ensures),
+      q .queue-if-dead .kept .1 .1 .0 ∙ l .inv .1,
+      walk-more (s .args .geo) (now (s .args .tab)) (l .left) (omega arith) (l .inv .0) (l .tab) (q .queue-if-dead .last .1 .1 .0) (l .inv .2) (q .queue-if-dead .ensures),
     )
 
 same-length : tie.Need-same-length Inv-loop μ-loop
@@ -66,7 +66,7 @@ queue-all-spec =
     μ-loop
     loop-holds
     sub-g
-    queue-dead-requires
+    queue-if-dead-requires
     sub-left
     loop-less
     loop-again

@@ -1,4 +1,4 @@
--- `queue_dead` meets its contract: by the test's answer the segment is queued, or all stays.
+-- `queue_if_dead` meets its contract: by the test's answer the segment is queued, or all stays.
 use Prim.Native.Nat.{ℕ}
 use mathlib.Core.Path.{_≡_, sym, ap, _∙_}
 use mathlib.Core.Bool.{Bool, cond}
@@ -7,8 +7,8 @@ use denote.Ref.{now}
 use Rattle.model.specs.Tables.{view}
 use Rattle.model.specs.Checkpoint.{dead?, queueLast}
 use borrow.Author.Needs.{needs}
-use Rattle.requeue.proofs.queue_dead.Statement.{statement}
-use Rattle.requeue.proofs.queue_dead.Tie as tie
+use Rattle.requeue.proofs.queue_if_dead.Statement.{statement}
+use Rattle.requeue.proofs.queue_if_dead.Tie as tie
 
 abbrev start : tie.After-is-dead → tie.Start
 start c = c .before .before .before
@@ -42,7 +42,7 @@ same-length-2 c = search needs
 returns-2 : tie.Need-returns-2
 returns-2 c u = turn (c .before) u (c .if1 .left)
 
-pub queue-dead-spec : {M : Type 1} → statement M
-queue-dead-spec =
+pub queue-if-dead-spec : {M : Type 1} → statement M
+queue-if-dead-spec =
     tie.close
     (tie.spec is-dead-requires queue-last-requires same-length returns same-length-2 returns-2)
