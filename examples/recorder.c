@@ -8,7 +8,7 @@
  *
  * A cut comes within `span` device operations; `limit` is how many erases a segment bears; the checkpoint's file is in `dir`, and sync=0
  * does not wait until it is on the disk; states=1 writes a collection's two states for tools/segments; careless=1 leaves out the checkpoint
- * before an erase, and loses peaks; winter=1 cuts nothing, refuses every second collection, and records the same peaks twice, once with each
+ * before an erase, and loses peaks; winter=1 cuts nothing, refuses every second erase, and records the same peaks twice, once with each
  * restore.
  *
  * The order of calls is that of docs/USING.md. Every library call here does at most one device operation, and the recorder carries it
@@ -231,8 +231,8 @@ static int64_t put(struct recorder *r, size_t sector, size_t len, const uint8_t 
     }
 }
 
-/* Makes the tables of the stored checkpoint, and queues every full segment with a dead page. The worn-out are among them: each comes before
- * all that hold a page, is refused once (5) and is off the queue again. None is taken off by hand: the tables change by calls alone, and the
+/* Makes the tables of the stored checkpoint, and queues every full segment with a dead page. Those whose erase was refused for good are among
+ * them: each comes before all that hold a page, is refused once (5) and is off the queue again. None is taken off by hand: the tables change by calls alone, and the
  * stored checkpoint stays good. Bad segment 5 is never among them, since its pages are free. */
 static void restore(struct recorder *r)
 {
@@ -253,7 +253,7 @@ static int collectable(const struct recorder *r)
     return 0;
 }
 
-/* Queues what no write queues while the unit runs: a segment whose pages died before it was full, and one whose collection was refused. The
+/* Queues what is not queued while the unit runs: a segment whose pages died before it was full, and one whose collection was refused. The
  * state is stored and made again, as by a restart; map, free counts and allocation segment come back as they were. */
 static void queue_again(struct recorder *r)
 {
@@ -500,7 +500,7 @@ static void show_part(struct recorder *r)
     printf("part  %lu peaks readable, the newest of minute %u\n", peaks, r->minute);
 }
 
-/* ---- last winter's fault */
+/* ---- a winter: every second erase refused, with each restore */
 
 /* How many of the newest peaks offered are not there to be read. */
 static unsigned long missed(struct recorder *r)

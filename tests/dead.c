@@ -175,10 +175,10 @@ static void small_devices(void)
 /* Files whose words were changed: what counts is the list that is left. */
 static void changed_files(void)
 {
+    static const uint32_t words[] = {0, 2, 8, SHR_EMPTY}; /* taken already, a page not used, a segment >= n, none */
     static struct whole x;
     size_t l, g;
-    for (l = 0; l < 3; l++) {
-        static const uint32_t words[] = {0, 2, 8, SHR_EMPTY}; /* taken already, a page not used, a segment >= n, none */
+    for (l = 0; l < COUNT(words); l++) {
         begin(&four, &x, "01");
         put(&x, 44 + 4, words[l]);
         seal(&x);
@@ -295,12 +295,12 @@ static void lowest_of_equals(void)
     collects(&four, &x, 0, 1);
     collects(&four, &x, 0, 2);
     CHECK(holds(&four, &x, "") && shr_unit_room(&four, &x.unit) == 7);
-    begin(&four, &x, "012010"); /* valid 0, 1, 2: the fewest first, and segment 2 is full and live */
+    begin(&four, &x, "012220"); /* valid 1, 0, 2: the fewest first, and segment 2 is full and live */
     beside(&four, &x, "01");
-    collects(&four, &x, 0, 0);
+    collects(&four, &x, 0, 1);
 }
 
-/* A collection of segment 0 is refused: it is off the queue, its flag set, and writes do not queue it. Saved and restored it is queued. */
+/* A collection of segment 0 is refused: it is off the queue, its flag set, and a collection finds nothing. Saved and restored it is queued. */
 static void refused_then_restored(const struct shr_geometry *geo, struct whole *x, uint64_t fuse, int64_t why)
 {
     CHECK(shr_unit_queued(geo, &x->unit) == 1);
@@ -335,7 +335,8 @@ static void recovery(void)
     CHECK(shr_unit_room(&three, &x.unit) == 4);
 }
 
-/* A worn-out segment is queued at every restart, comes first, and stops the list; off the queue again, it lets the others be taken. */
+/* A segment whose erase is refused for good is queued at every restart, comes first, and stops the list; off the queue again, it lets the
+ * others be taken. One at its limit that still holds a page costs a free page first. */
 static void worn_out(void)
 {
     static struct whole x;
@@ -350,6 +351,12 @@ static void worn_out(void)
         CHECK(shr_unit_collect_list_told(&four, &x.unit, 9) == 0 && x.unit.counts.at[1] == 1);
         save(&four, &x);
     }
+    begin(&four, &x, "0120");
+    x.unit.counts.at[0] = (uint32_t)four.limit;
+    beside(&four, &x, "0");
+    CHECK(shr_unit_listed(&four, &x.unit, 0) == 1 && shr_unit_room(&four, &x.unit) == 4);
+    collects(&four, &x, -SHR_DEVICE, 0);
+    CHECK(shr_unit_listed(&four, &x.unit, 0) == 0 && shr_unit_room(&four, &x.unit) == 3);
 }
 
 /* A bad segment is queued too, and is not refused: its pages move out, it is erased, and gives no room; then it is queued no more. */

@@ -159,7 +159,7 @@ fn the_lowest_of_equals_is_taken() {
     assert_eq!(unit.counts, [before[0], before[1] + 1, before[2]]);
 }
 
-/// The collection of segment 0 is refused: off the queue, its flag set, it is lost to writes. Saved and restored it is queued.
+/// The collection of segment 0 is refused: it is off the queue, its flag set. Saved and restored it is queued.
 fn refused(unit: &mut OwnedFtl, fuse: u64, why: Refusal) {
     let held = contents(unit);
     unit.fuse = fuse;

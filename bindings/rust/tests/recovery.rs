@@ -1,5 +1,5 @@
-//! What docs/USING.md says of draining, of refused collections and of the old restore, after which a segment may be left to the hand. The
-//! restore that queues them is in dead.rs.
+//! What docs/USING.md says of draining and of refused collections, and what the old restore leaves unqueued. The restore that queues the dead is in
+//! dead.rs.
 use shillingreed::{Geometry, OwnedFtl, Refusal, ENDLESS};
 
 const GEO: Geometry = Geometry { n: 4, p: 3, s: 4, w: 2, e: 6, limit: 9 };
