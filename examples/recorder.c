@@ -231,9 +231,10 @@ static int64_t put(struct recorder *r, size_t sector, size_t len, const uint8_t 
     }
 }
 
-/* Makes the tables of the stored checkpoint, and queues every full segment with a dead page. Those whose erase was refused for good are among
- * them: each comes before all that hold a page, is refused once (5) and is off the queue again. None is taken off by hand: the tables change by calls alone, and the
- * stored checkpoint stays good. Bad segment 5 is never among them, since its pages are free. */
+/* Makes the tables of the stored checkpoint and, but for the old choice, queues every full segment with a dead page. Those whose erase was
+ * refused for good are among them: each comes before all that hold a page, is refused once (5) and is off the queue again. None is taken
+ * off by hand: the tables change by calls alone, and the stored checkpoint stays good. Bad segment 5 is never among them, since its pages
+ * are free. */
 static void restore(struct recorder *r)
 {
     uint8_t file[1024];

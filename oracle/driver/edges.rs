@@ -8,9 +8,9 @@
 //!     edges [part] [--seconds N] [--calls N] [--seed S] [--announce]
 //!
 //! Parts: all (every part, then random runs to the end), selftest, runs (random ones),
-//! extremes (right geometries at their limits), words (all tables of tiny devices), files (all
-//! checkpoints of tiny devices), numbers (sizes and CRC-32), and those of `PARTS`. A difference is
-//! printed with the shortest run that still shows it, and the exit status is 1.
+//! extremes (right geometries at their limits), words (all tables of tiny devices), files (all maps
+//! and free counts of tiny devices), numbers (sizes and CRC-32), and those of `PARTS`. A difference
+//! is printed with the shortest run that still shows it, and the exit status is 1.
 //! `--announce` prints each call before it is made, for a port that would not return; its told
 //! call, or a restore's other one, follows unannounced.
 
@@ -1823,7 +1823,7 @@ fn nth_tables(digits: &[&[u32]], index: usize, words: usize) -> Poke {
     Poke::Tables(all, used)
 }
 
-// ---------------------------------------------------------------- all checkpoints of tiny devices
+// ---------------------------------------------------------------- all maps and free counts of tiny devices
 
 /// n, p, w and e of devices; one has addresses past p.
 const SMALLEST: [(u64, u64, u64, u64); 6] =

@@ -186,7 +186,7 @@ fn a_refused_collection_is_made_good() {
 
 /// The erase is refused of a segment that holds no page: by the old restore no call reaches it, and the unit ends without room.
 #[test]
-fn a_refused_erase_is_made_good_and_was_not() {
+fn a_refused_erase_is_made_good_but_not_by_the_old_restore() {
     let mut unit = with(THREE, &[0, 1, 0, 1]);
     refused(&mut unit, 0, Refusal::Device);
     let mut old = unit.clone();

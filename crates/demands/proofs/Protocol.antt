@@ -1,5 +1,5 @@
--- docs/USING.md, "When a checkpoint's guarantee ends". Behind a stored checkpoint come reads, writes and encodings, and collections of a segment that
--- holds no page mapped at it. Wherever the power goes, the stored checkpoint gives back exactly what it held, and while a new one is being stored,
+-- docs/USING.md, "When a checkpoint's guarantee ends". Behind a stored checkpoint come reads, writes and encodings, restores of it, and collections of
+-- a segment that holds no page mapped at it. Wherever the power goes, the stored checkpoint gives back exactly what it held, and while a new one is being stored,
 -- either of the two.
 use Prim.Native.Nat.{ℕ, suc, _-_}
 use mathlib.Core.Path.{_≡_, refl, sym, subst}

@@ -72,8 +72,8 @@ module _ (xs : List ℕ) where
   unfoldable pub listRecord : ℕ → Next
   listRecord at = after (number xs at) Bad λ m a. Found (CollectList m) a
 
-  -- "0 write …; 1 read …; 2 collect; 3 collect from list (m); 4 checkpoint; 5 restore"; 02, M-109: "record 5 … ask[s] for" the old empty queue "by name;
-  -- a new record 6 (also `s`) uses the new default"; any other number is "an unknown record"
+  -- "0 write …; 1 read …; 2 collect; 3 collect from list (m); 4 checkpoint; 5 restore"; 02, M-109: record 5 asks for the old empty queue by name, "a new
+  -- record 6 (also `s`) uses the new default"; any other number is "an unknown record"
   unfoldable pub recordOf : ℕ → ℕ → Next
   recordOf kind at =
       cond (eqb kind 0) (writeRecord at)
