@@ -429,7 +429,7 @@ static void damage_passes(struct call *c) {
         break;
     case 51: // a collection spent other pages than its copies
         while (i < g->n && counts[i] != old[i]) i = free_segment(g, &a, i + 1);
-        if (i < g->n) spend_one(g, &a, i);
+        if (i < g->n && c->entry != COLLECT) spend_one(g, &a, i);
         break;
     case 52: // a collection's fuse
         flip(FUSE, 0);
@@ -497,6 +497,11 @@ static void lend_endless(void) {
     memset(lent[FUSE].at, 255, 8);
 }
 
+static void mark_all(uint8_t bad) {
+    memset(lent[BAD].before, bad, lent[BAD].len);
+    memset(lent[BAD].at, bad, lent[BAD].len);
+}
+
 static void damage_refused(struct call *c) {
     if (!collected(c) || c->answer >= 0) return;
     struct tables b = before(&c->geo), a = after(&c->geo);
@@ -515,11 +520,100 @@ static void damage_refused(struct call *c) {
         if (c->answer == -5) c->geo.limit = UINT32_MAX, lend_endless();
         break;
     case 65: // a copy finds no room, and there is room
-        memset(lent[BAD].before, 0, lent[BAD].len);
-        memset(lent[BAD].at, 0, lent[BAD].len);
+        if (c->entry != COLLECT) mark_all(0);
         break;
     case 66: // a copy is refused at the device without cause
         if (c->answer != -5 && total_free(&c->geo, &b) > total_free(&c->geo, &a)) lend_endless();
+        break;
+    }
+}
+
+// Of the segments with the least valid count the first in the queue.
+static uint32_t first_victim(const struct tables *t) {
+    uint32_t x = t->queue[0];
+    for (size_t i = 1; i < *t->queued; i++)
+        if (t->valid[t->queue[i]] < t->valid[x]) x = t->queue[i];
+    return x;
+}
+
+static void mark_one(size_t i, uint8_t bad) {
+    lent[BAD].before[i] = lent[BAD].at[i] = bad;
+}
+
+// Every segment that took a copy, marked bad: the copies went where no room is.
+static void mark_targets(const struct geo *g, const struct tables *b, const struct tables *a) {
+    for (size_t i = 0; i < g->n; i++)
+        if (a->free[i] < b->free[i]) mark_one(i, 1);
+}
+
+// The room at entry, had the segments that took a copy been bad.
+static uint64_t other_room(const struct geo *g, const struct tables *b, const struct tables *a) {
+    uint64_t sum = room(g, b, lent[BAD].before);
+    for (size_t i = 0; i < g->n; i++) sum -= a->free[i] < b->free[i] ? b->free[i] : 0;
+    return sum;
+}
+
+// The copy that the device refused, told as one without room: its page is not spent.
+static void tell_as_room(struct call *c, struct tables *a) {
+    size_t i = *a->alloc;
+    a->used[i * c->geo.p + c->geo.p - ++a->free[i]] = 0;
+    a->valid[i]--;
+    c->answer = refusal(c->choice, COPY_NO_ROOM);
+}
+
+// One collection that ran, by the new name for odd breaks, by the old one for even ones.
+static bool one_pass(const struct call *c) {
+    return c->entry == COLLECT && collected(c) && c->choice == (broken() % 2 ? NEW : OLD);
+}
+
+static void damage_finished_sums(const struct call *c) {
+    const struct geo *g = &c->geo;
+    if (!one_pass(c) || c->answer) return;
+    struct tables b = before(g), a = after(g);
+    uint32_t victim = first_victim(&b), v = b.lens[victim];
+    size_t i = free_segment(g, &a, 0);
+    if (i == victim) i = free_segment(g, &a, i + 1);
+    switch (broken()) {
+    case 98: // collect: a finished pass does not gain p - v
+        if (i < g->n) spend_one(g, &a, i);
+        break;
+    case 99: // collect_told: a finished pass does not spend v pages of the room
+        if (v && other_room(g, &b, &a) >= v) mark_targets(g, &b, &a);
+        break;
+    case 100: // collect: a pass short of room is not refused for room
+        if (v) mark_all(1);
+        break;
+    }
+}
+
+static void damage_refused_sums(struct call *c) {
+    const struct geo *g = &c->geo;
+    if (!one_pass(c) || c->answer >= 0) return;
+    struct tables b = before(g), a = after(g);
+    uint32_t victim = first_victim(&b);
+    uint64_t v = b.lens[victim], listed = a.lens[victim], total = total_free(g, &b), left = total_free(g, &a);
+    bool at_device = listed && total - left != v - listed;
+    size_t i = free_segment(g, &a, 0);
+    switch (broken()) {
+    case 101: // collect_told: a pass is refused for room, and there is room for v pages
+        if (at_device && room(g, &b, lent[BAD].before) >= v) tell_as_room(c, &a);
+        break;
+    case 102: // collect: a pass is refused for room, and room is left
+        if (at_device && b.free[*a.alloc] < v) tell_as_room(c, &a), mark_all(1), mark_one(*a.alloc, 0);
+        break;
+    case 103: // collect_told: a pass refused for room does not spend the room
+        if (at_device && v > listed) tell_as_room(c, &a);
+        if (listed && v > listed) mark_all(1);
+        break;
+    case 104: // collect: a refused erase does not cost v pages
+        if (!listed && i < g->n) spend_one(g, &a, i);
+        break;
+    case 105: // collect_told: a pass short of room is not refused for room
+        if (!listed && v) mark_all(1);
+        break;
+    case 106: // collect: a copy refused at the device costs no page or more than v
+        if (at_device && total > v)
+            for (; i < g->n; i = free_segment(g, &a, i)) spend_one(g, &a, i);
         break;
     }
 }
@@ -540,4 +634,6 @@ void damage(struct call *c) {
     damage_passes(c);
     damage_flash(c);
     damage_refused(c);
+    damage_finished_sums(c);
+    damage_refused_sums(c);
 }

@@ -213,6 +213,13 @@ uint64_t total_free(const struct geo *g, const struct tables *t) {
     return sum;
 }
 
+// 02: "the free pages of segments outside the bad list".
+uint64_t room(const struct geo *g, const struct tables *t, const uint8_t *bad) {
+    uint64_t sum = 0;
+    for (size_t i = 0; i < g->n; i++) sum += bad[i] ? 0 : t->free[i];
+    return sum;
+}
+
 uint32_t word_at(const uint8_t *x) {
     return x[0] | x[1] << 8 | x[2] << 16 | (uint32_t)x[3] << 24;
 }

@@ -46,6 +46,7 @@ size_t page_of(const struct geo *g, uint32_t word);
 size_t find(const struct geo *g, const struct tables *t, const uint8_t *bad);
 bool marked_above(const struct geo *g, const uint8_t *marks, size_t a);
 uint64_t total_free(const struct geo *g, const struct tables *t);
+uint64_t room(const struct geo *g, const struct tables *t, const uint8_t *bad);
 uint32_t word_at(const uint8_t *x);
 uint64_t long_at(const uint8_t *x);
 void put_word(uint8_t *x, uint32_t v);

@@ -3,7 +3,8 @@
 //! It covers what has no counterpart in the Rust: wrong sizes, dirty scratch, unsound
 //! tables, wrong geometries, fuses, worn and marked flash, damaged checkpoints. A write and a
 //! collection are also made in the new numbers, on a copy of what the old call was lent; so is
-//! every restore with the dead queued, and runs go on from what either of the two left.
+//! every restore with the dead queued, and runs go on from what either of the two left. What a
+//! single collection must gain or spend is worked out here, beside both sides.
 //!
 //!     edges [part] [--seconds N] [--calls N] [--seed S] [--announce]
 //!
@@ -19,7 +20,7 @@ mod plain;
 #[path = "port.rs"]
 mod port;
 
-use plain::{Answer, Geometry, Lent, Numbers, EMPTY, ENDLESS};
+use plain::{Answer, Cause, Geometry, Lent, Numbers, EMPTY, ENDLESS};
 use std::collections::BTreeMap;
 use std::process::ExitCode;
 use std::time::Instant;
@@ -498,8 +499,10 @@ fn compare_told(
     if answer != told.answer {
         return difference("answer in the new numbers", answer, told.answer);
     }
-    told.answer = as_old(told.answer);
-    let found = compare(geo, old, told)?;
+    told.answer = as_old(answer);
+    let found = compare(geo, old, told);
+    told.answer = answer;
+    let found = found?;
     Some(Difference { field: format!("new numbers beside old: {}", found.field), ..found })
 }
 
@@ -545,6 +548,126 @@ fn requeued(geo: &Geometry, left: &Outcome) -> Option<Requeued> {
     }
     let live = segments(geo, &left.lent, |free, length, p| free == 0 && length == p);
     Some(Requeued { queued: queued(geo, &left.lent), live: live.len() })
+}
+
+// ---------------------------------------------------------------- what a pass gains
+
+/// A single collection that ran: what 02, M-111 counts at its entry, and its answer in the new
+/// numbers.
+#[derive(Clone, Copy, Debug)]
+struct Pass {
+    victim: usize,
+    /// The victim is on the bad list.
+    bad: bool,
+    /// The length of the victim's list, M-111's v.
+    listed: u64,
+    total: u64,
+    room: u64,
+    told: i64,
+}
+
+/// "Total free pages."
+fn total_free(geo: &Geometry, tab: &[u32]) -> u64 {
+    tab[at_free(geo)..at_valid(geo)].iter().map(|&free| free as u64).sum()
+}
+
+/// "The free pages of segments outside the bad list."
+fn room(geo: &Geometry, bad: &[u8], tab: &[u32]) -> u64 {
+    let counts = tab[at_free(geo)..at_valid(geo)].iter().zip(bad);
+    counts.filter(|(_, &mark)| mark == 0).map(|(&free, _)| free as u64).sum()
+}
+
+/// The pass that a call made, if it is a single collection and a queue was there to run on.
+fn passed(geo: &Geometry, call: &Call, bad: &[u8], before: &[u32], told: i64) -> Option<Pass> {
+    if *call != Collect || matches!(told, -22 | -117) {
+        return None;
+    }
+    let queue = before[at_queue(geo)..][..before[at_queued(geo)] as usize].iter();
+    let victim = queue.map(|&g| g as usize).min_by_key(|&g| before[at_valid(geo) + g])?;
+    Some(Pass {
+        victim,
+        bad: bad[victim] != 0,
+        listed: before[at_lens(geo) + victim] as u64,
+        total: total_free(geo, before),
+        room: room(geo, bad, before),
+        told,
+    })
+}
+
+/// The sums of 02, M-111, each as it is reported where it does not hold.
+const GAIN: &str = "a finished pass did not gain p - v";
+const USE: &str = "a finished pass did not take v pages of the room";
+const SHORT: &str = "a pass short of room was not refused for it";
+const AMPLE: &str = "a pass with room for its list was refused for room";
+const LEFT: &str = "a pass refused for room left some";
+const OTHERS: &str = "a pass refused for room spent other pages";
+const ERASE: &str = "a pass with its erase refused did not spend v pages";
+const NONE: &str = "a pass refused at the device spent no page";
+const MORE: &str = "a pass refused at the device spent more than v pages";
+const STRANGE: &str = "a pass answered as none may";
+
+/// The first sum that total free and room after a pass do not keep.
+fn broken_sum(geo: &Geometry, pass: &Pass, total: u64, room: u64) -> Option<&'static str> {
+    let v = pass.listed;
+    let given = if pass.bad { 0 } else { geo.p };
+    match pass.told {
+        0 | -5 if pass.room < v => Some(SHORT),
+        0 if total + v != pass.total + geo.p => Some(GAIN),
+        0 if room + v != pass.room + given => Some(USE),
+        -28 if pass.room >= v => Some(AMPLE),
+        -28 if room != 0 => Some(LEFT),
+        -28 if total + pass.room != pass.total => Some(OTHERS),
+        -5 if total + v != pass.total => Some(ERASE),
+        -121 if total >= pass.total => Some(NONE),
+        -121 if total + v < pass.total => Some(MORE),
+        0 | -28 | -5 | -121 => None,
+        _ => Some(STRANGE),
+    }
+}
+
+/// The sums over the words that a side left, worked out here and not by the plain reading, which
+/// may be wrong in the same way.
+fn compare_sums(geo: &Geometry, pass: &Pass, left: &Lent) -> Option<Difference> {
+    let (total, room) = (total_free(geo, &left.tab), room(geo, &left.bad, &left.tab));
+    let broken = broken_sum(geo, pass, total, room)?;
+    let sums = format!("total free {} to {total}, room {} to {room}", pass.total, pass.room);
+    let place = format!("{broken}: v {}, {sums}, answer on both sides", pass.listed);
+    difference(&place, pass.told, pass.told)
+}
+
+/// The sums of both calls of a single collection; the old one's 14 is read by what the other told.
+fn compare_pass(
+    geo: &Geometry,
+    call: &Call,
+    before: &[u32],
+    old: &Outcome,
+    told: &Outcome,
+) -> Option<Difference> {
+    let pass = passed(geo, call, &told.lent.bad, before, told.answer)?;
+    let answer = if old.answer == -14 { told.answer } else { old.answer };
+    compare_sums(geo, &Pass { told: answer, ..pass }, &old.lent)
+        .or_else(|| compare_sums(geo, &pass, &told.lent))
+}
+
+/// The kinds that a pass is counted under.
+fn kinds(geo: &Geometry, pass: &Pass) -> Vec<&'static str> {
+    let short = pass.room < pass.listed;
+    let mut kinds = vec![match pass.told {
+        0 if pass.listed == 0 => "v = 0",
+        0 if pass.listed < geo.p => "0 < v < p",
+        0 => "v = p",
+        -28 => "for room",
+        -5 => "erase refused",
+        _ if short => "at the device, short of room",
+        _ => "at the device",
+    }];
+    if pass.bad {
+        kinds.push(if pass.told == 0 { "bad victim" } else { "bad victim, refused" });
+    }
+    if pass.told == 0 && pass.listed > 0 && pass.room == pass.listed {
+        kinds.push("room = v");
+    }
+    kinds
 }
 
 // ---------------------------------------------------------------- steps
@@ -694,12 +817,25 @@ fn apply(poke: &Poke, saved: &[Vec<u8>], geo: &mut Geometry, lent: &mut Lent) {
     }
 }
 
-/// Who is compared with the plain reading: the port, or a program of the self-test that is wrong
-/// where it answers in these numbers.
+/// Who is compared with the plain reading: the port, a program of the self-test that is wrong where
+/// it answers in these numbers, or one with which the plain reading shares its fault.
 #[derive(Clone, Copy)]
 enum Side {
     Port,
     Wrong(Numbers, Fault),
+    Shared(PassFault),
+}
+
+/// The plain reading, with the fault that it shares.
+fn read_by(side: Side, geo: &Geometry, call: &Call, lent: &mut Lent) -> Answer {
+    let Side::Shared(fault) = side else { return by_plain(geo, call, lent) };
+    let before = lent.clone();
+    let answer = by_plain(geo, call, lent);
+    let told = plain::number(Numbers::New, answer);
+    match passed(geo, call, &before.bad, &before.tab, told) {
+        Some(pass) => fault(geo, &pass, &before, lent, answer),
+        None => answer,
+    }
 }
 
 fn by_side(side: Side, geo: &Geometry, numbers: Numbers, call: &Call, lent: &Lent) -> Outcome {
@@ -711,6 +847,11 @@ fn by_side(side: Side, geo: &Geometry, numbers: Numbers, call: &Call, lent: &Len
             if numbers == spoilt {
                 answer = fault(geo, call, lent, &mut after, answer);
             }
+            Outcome { answer, lent: after, past: None }
+        }
+        Side::Shared(_) => {
+            let mut after = lent.clone();
+            let answer = plain::number(numbers, read_by(side, geo, call, &mut after));
             Outcome { answer, lent: after, past: None }
         }
     }
@@ -734,10 +875,12 @@ fn by_reading(geo: &Geometry, call: &Call, lent: &Lent) -> Outcome {
     Outcome { answer, lent, past: None }
 }
 
-/// A step without a difference: the plain answer, and what a restore that queues the dead came to.
+/// A step without a difference: the plain answer, what a restore that queues the dead came to, and
+/// the kinds of a single collection that ran.
 struct Made {
     answer: Answer,
     requeued: Option<Requeued>,
+    kinds: Vec<&'static str>,
 }
 
 /// One step of both sides from one state, or the difference.
@@ -748,15 +891,16 @@ fn take(side: Side, state: &mut State, step: &Step) -> Result<Made, Difference> 
     }
     let made = |numbers, call: &Call| by_side(side, &geo, numbers, call, &lent);
     let mut port = made(Numbers::Old, &step.call);
-    let told = step.call.told().map(|_| made(Numbers::New, &step.call));
+    let mut told = step.call.told().map(|_| made(Numbers::New, &step.call));
     let mut other = (step.call.other())
         .map(|call| (by_reading(&geo, &call, &lent), made(Numbers::Old, &call)));
     let before = lent.tab.clone();
-    let answer = by_plain(&geo, &step.call, &mut lent);
+    let answer = read_by(side, &geo, &step.call, &mut lent);
     let mut plain = Outcome { answer: old(answer), lent, past: None };
     let found = compare(&geo, &mut plain, &mut port)
-        .or_else(|| compare_told(&geo, answer, &mut port, &mut told?))
+        .or_else(|| compare_told(&geo, answer, &mut port, told.as_mut()?))
         .or_else(|| compare_other(&geo, &port, other.as_mut()?))
+        .or_else(|| compare_pass(&geo, &step.call, &before, &port, told.as_ref()?))
         .or_else(|| unsound_after(&geo, &before, &plain))
         .or_else(|| unsound_after(&geo, &before, &other.as_ref()?.0));
     if let Some(found) = found {
@@ -767,6 +911,8 @@ fn take(side: Side, state: &mut State, step: &Step) -> Result<Made, Difference> 
         _ => other.as_ref().map(|(plain, _)| plain),
     };
     let requeued = dead.and_then(|left| requeued(&geo, left));
+    let pass = told.and_then(|told| passed(&geo, &step.call, &told.lent.bad, &before, told.answer));
+    let kinds = pass.map_or(Vec::new(), |pass| kinds(&geo, &pass));
     if step.keep {
         state.requeued = still_queued(state, step, &plain);
         state.lent = plain.lent;
@@ -774,7 +920,7 @@ fn take(side: Side, state: &mut State, step: &Step) -> Result<Made, Difference> 
             state.saved.push(state.lent.buffer[..plain.answer as usize].to_vec());
         }
     }
-    Ok(Made { answer, requeued })
+    Ok(Made { answer, requeued, kinds })
 }
 
 /// The dead segments that a restore queued and that are queued still after a kept step.
@@ -901,6 +1047,8 @@ struct Driver {
     told: u64,
     /// The restores, each made under both names.
     restores: u64,
+    /// The single collections that ran, the sums of both their calls checked.
+    passes: u64,
     tally: BTreeMap<(&'static str, String), u64>,
 }
 
@@ -916,6 +1064,7 @@ impl Driver {
             calls: 0,
             told: 0,
             restores: 0,
+            passes: 0,
             tally: BTreeMap::new(),
         }
     }
@@ -941,6 +1090,10 @@ impl Driver {
             if full.live > 0 {
                 self.met("queued by it", "not a live one".into());
             }
+        }
+        self.passes += u64::from(!made.kinds.is_empty());
+        for kind in &made.kinds {
+            self.met("passes", kind.to_string());
         }
     }
 
@@ -1177,7 +1330,7 @@ impl Driver {
 /// Each part makes its calls around one place.
 type Part = fn(&mut Driver, &mut Place) -> Going;
 
-const PARTS: [(&str, Part); 9] = [
+const PARTS: [(&str, Part); 10] = [
     ("sizes", Driver::sizes),
     ("scratch", Driver::scratch),
     ("tables", Driver::tables),
@@ -1185,6 +1338,7 @@ const PARTS: [(&str, Part); 9] = [
     ("spans", Driver::spans),
     ("fuses", Driver::fuses),
     ("flash", Driver::flash),
+    ("passes", Driver::passes),
     ("opening", Driver::opening),
     ("restore", Driver::restore),
 ];
@@ -1412,6 +1566,24 @@ impl Driver {
         let fused: Vec<Poke> = pokes.iter().cloned().chain([fuse]).collect();
         self.aside(place, fused.clone(), Format)?;
         self.aside(place, fused, List(n))?;
+        Ok(())
+    }
+
+    /// Single collections on sound tables with long lists, many segments bad, on a worn device.
+    fn passes(&mut self, place: &mut Place) -> Going {
+        let Geometry { n, p, .. } = place.state.geo;
+        let geo = Geometry { e: n * p, ..place.state.geo };
+        for _ in 0..1_000 {
+            let mut pokes = vec![Poke::Geo(4, geo.e), Poke::Fit];
+            pokes.extend(self.sound_tables(&geo));
+            for g in 0..n as usize {
+                if self.rng.one_in(3) {
+                    pokes.push(Poke::Put(Bad, g, self.rng.pick(&[0, 1, 7, 255])));
+                }
+            }
+            self.device_pokes(&place.state, &mut pokes);
+            self.aside(place, pokes, Collect)?;
+        }
         Ok(())
     }
 
@@ -2296,11 +2468,147 @@ const DEAD_FAULTS: [(&str, Fault); 14] = [
     }),
 ];
 
-fn wrong_programs() -> Vec<(&'static str, Side)> {
-    let by = |numbers| move |(name, fault)| (name, Side::Wrong(numbers, fault));
+/// A wrong pass of a single collection, made from what the plain reading leaves and answers.
+type PassFault = fn(&Geometry, &Pass, &Lent, &mut Lent, Answer) -> Answer;
+
+/// A free page of a segment becomes used, with nothing in it.
+fn spend(geo: &Geometry, lent: &mut Lent, g: usize) {
+    let free = lent.tab[at_free(geo) + g];
+    lent.used[(g + 1) * geo.p as usize - free as usize] = 1;
+    lent.tab[at_free(geo) + g] -= 1;
+    lent.tab[at_valid(geo) + g] += 1;
+}
+
+/// The segments with free pages, on the bad list or outside it.
+fn with_room(geo: &Geometry, lent: &Lent, bad: bool) -> Vec<usize> {
+    (0..geo.n as usize)
+        .filter(|&g| lent.tab[at_free(geo) + g] > 0 && (lent.bad[g] != 0) == bad)
+        .collect()
+}
+
+/// Nothing is changed, and the pass answers so.
+fn unmoved(before: &Lent, after: &mut Lent, answer: Answer) -> Answer {
+    *after = before.clone();
+    answer
+}
+
+/// The pass once more, with no segment bad.
+fn with_none_bad(geo: &Geometry, before: &Lent) -> (Lent, Answer) {
+    let mut after = before.clone();
+    after.bad.fill(0);
+    let answer = plain::collect(geo, &mut after);
+    after.bad = before.bad.clone();
+    (after, answer)
+}
+
+/// The victim's pages are held elsewhere over its erase and come back into it.
+fn come_back(geo: &Geometry, pass: &Pass, before: &Lent, after: &mut Lent) {
+    *after = before.clone();
+    let (p, g, v) = (geo.p as usize, pass.victim, pass.listed as usize);
+    for k in 0..v {
+        let l = after.tab[at_lists(geo) + g * p + k] as usize;
+        after.tab[l] = ((g << geo.w) + k) as u32;
+    }
+    after.used[g * p..][..p].fill(0);
+    after.used[g * p..][..v].fill(1);
+    after.tab[at_free(geo) + g] = (p - v) as u32;
+    after.tab[at_valid(geo) + g] = v as u32;
+    let mut queue = before.tab[at_queue(geo)..][..queued(geo, before)].to_vec();
+    queue.retain(|&other| other as usize != g);
+    queue_only(geo, after, &queue);
+}
+
+/// Programs that are wrong on both sides alike and leave sound tables, each with the sum that must
+/// find it.
+const PASS_FAULTS: [(&str, &str, PassFault); 15] = [
+    ("an erased segment has p - 1 pages", GAIN, |geo, pass, _, after, answer| {
+        if answer == Ok(0) {
+            spend(geo, after, pass.victim);
+        }
+        answer
+    }),
+    ("copies go to bad segments too", USE, |geo, _, before, after, answer| {
+        if answer != Ok(0) {
+            return answer;
+        }
+        let (left, answer) = with_none_bad(geo, before);
+        *after = left;
+        answer
+    }),
+    ("bad segments are taken where no other has room", SHORT, |geo, _, before, after, answer| {
+        match with_none_bad(geo, before) {
+            (left, Ok(0)) if answer == Err(Cause::CopyNoRoom) => {
+                *after = left;
+                Ok(0)
+            }
+            _ => answer,
+        }
+    }),
+    ("short of room, the list comes back", SHORT, |geo, pass, before, after, answer| {
+        if answer != Err(Cause::CopyNoRoom) || pass.bad {
+            return answer;
+        }
+        come_back(geo, pass, before, after);
+        Ok(0)
+    }),
+    ("no room answered as a refused erase", SHORT, |_, _, _, _, answer| {
+        if answer == Err(Cause::CopyNoRoom) { Err(Cause::Erase) } else { answer }
+    }),
+    ("the last free page is kept back", AMPLE, |_, pass, before, after, answer| {
+        if answer == Ok(0) && pass.listed > 0 && pass.room == pass.listed {
+            return unmoved(before, after, Err(Cause::CopyNoRoom));
+        }
+        answer
+    }),
+    ("room asked for by the valid count", AMPLE, |geo, pass, before, after, answer| {
+        if answer == Ok(0) && pass.room < before.tab[at_valid(geo) + pass.victim] as u64 {
+            return unmoved(before, after, Err(Cause::CopyNoRoom));
+        }
+        answer
+    }),
+    ("the device's refusal answered as no room", AMPLE, |_, pass, _, _, answer| {
+        let device = answer == Err(Cause::CopyDevice) && pass.room >= pass.listed;
+        if device { Err(Cause::CopyNoRoom) } else { answer }
+    }),
+    ("a refused erase answered as no room", AMPLE, |_, _, _, _, answer| {
+        if answer == Err(Cause::Erase) { Err(Cause::CopyNoRoom) } else { answer }
+    }),
+    ("short of room, nothing is copied", LEFT, |_, _, before, after, answer| {
+        if answer == Err(Cause::CopyNoRoom) { unmoved(before, after, answer) } else { answer }
+    }),
+    ("short of room, a bad segment's page is spent", OTHERS, |geo, _, _, after, answer| {
+        let bad = with_room(geo, after, true);
+        if answer == Err(Cause::CopyNoRoom) && !bad.is_empty() {
+            spend(geo, after, bad[0]);
+        }
+        answer
+    }),
+    ("the erase is tried before the copies", ERASE, |_, _, before, after, answer| {
+        if answer == Err(Cause::Erase) { unmoved(before, after, answer) } else { answer }
+    }),
+    ("a page that the device refuses is not spent", NONE, |_, _, before, after, answer| {
+        if answer == Err(Cause::CopyDevice) { unmoved(before, after, answer) } else { answer }
+    }),
+    ("no room answered as the device's refusal", NONE, |_, _, _, _, answer| {
+        if answer == Err(Cause::CopyNoRoom) { Err(Cause::CopyDevice) } else { answer }
+    }),
+    ("a copy that the device refuses spends all the room", MORE, |geo, _, _, after, answer| {
+        while answer == Err(Cause::CopyDevice) {
+            let Some(&g) = with_room(geo, after, false).first() else { break };
+            spend(geo, after, g);
+        }
+        answer
+    }),
+];
+
+/// Every wrong program, with the beginning of what must be reported of it.
+fn wrong_programs() -> Vec<(&'static str, &'static str, Side)> {
+    let by = |numbers| move |(name, fault)| (name, "", Side::Wrong(numbers, fault));
     let old = FAULTS.into_iter().map(by(Numbers::Old));
     let told = TOLD_FAULTS.into_iter().map(by(Numbers::New));
-    old.chain(told).chain(DEAD_FAULTS.into_iter().map(by(Numbers::Old))).collect()
+    let dead = DEAD_FAULTS.into_iter().map(by(Numbers::Old));
+    let shared = PASS_FAULTS.into_iter().map(|(name, sum, fault)| (name, sum, Side::Shared(fault)));
+    old.chain(told).chain(dead).chain(shared).collect()
 }
 
 // ---------------------------------------------------------------- self-test
@@ -2385,18 +2693,70 @@ fn guards_work(place: &Place) -> Result<u64, String> {
     Ok(2 * FIELDS.len() as u64 - 2)
 }
 
-/// Random runs must find a wrong program, and its report must stay true when replayed.
-fn finds(name: &str, side: Side, seed: u64) -> Result<(u64, usize), String> {
+/// After a pass, each free count changed by one and its answer turned must break a sum; so must
+/// other readings of v and of the room.
+fn sums_work(driver: &mut Driver, place: &Place) -> Result<u64, String> {
+    let (mut geo, mut lent) = (place.state.geo, place.state.lent.clone());
+    for poke in driver.sound_tables(&geo) {
+        apply(&poke, &[], &mut geo, &mut lent);
+    }
+    let before = lent.tab.clone();
+    let told = plain::number(Numbers::New, by_plain(&geo, &Collect, &mut lent));
+    let Some(pass) = passed(&geo, &Collect, &lent.bad, &before, told) else { return Ok(0) };
+    if let Some(broken) = compare_sums(&geo, &pass, &lent) {
+        return Err(format!("the sums of the plain reading: {}", broken.field));
+    }
+    let wrong = misread(&geo, &pass, &before).into_iter().map(|pass| (pass, lent.clone()));
+    let miscounted = miscounted(&geo, &pass, &lent).into_iter().map(|lent| (pass, lent));
+    let all: Vec<(Pass, Lent)> = wrong.chain(miscounted).collect();
+    match all.iter().find(|(pass, lent)| compare_sums(&geo, pass, lent).is_none()) {
+        Some((wrong, _)) => Err(format!("a sum of {pass:?} holds of {wrong:?}")),
+        None => Ok(all.len() as u64),
+    }
+}
+
+/// A pass read wrongly where a sum must tell: another answer, but for the device's refusals, which
+/// may spend as much as others; the valid count for v; bad segments' pages in the room.
+fn misread(geo: &Geometry, pass: &Pass, before: &[u32]) -> Vec<Pass> {
+    let sure = |told| pass.told == 0 || told == 0 || ![pass.told, told].contains(&-121);
+    let others = [0, -28, -5, -121].into_iter().filter(|&told| told != pass.told && sure(told));
+    let mut wrong: Vec<Pass> = others.map(|told| Pass { told, ..*pass }).collect();
+    let valid = before[at_valid(geo) + pass.victim] as u64;
+    if matches!(pass.told, 0 | -5) && valid != pass.listed {
+        wrong.push(Pass { listed: valid, ..*pass });
+    }
+    if matches!(pass.told, 0 | -28) && pass.total != pass.room {
+        wrong.push(Pass { room: pass.total, ..*pass });
+    }
+    wrong
+}
+
+/// What a pass leaves, with each free count one more and one less; not after the device's refusals.
+fn miscounted(geo: &Geometry, pass: &Pass, left: &Lent) -> Vec<Lent> {
+    let counts = (at_free(geo)..at_valid(geo)).filter(|_| pass.told != -121);
+    let changed = |at: usize, change: i32| {
+        let mut lent = left.clone();
+        lent.tab[at] = lent.tab[at].checked_add_signed(change)?;
+        Some(lent)
+    };
+    counts.flat_map(|at| [changed(at, 1), changed(at, -1)]).flatten().collect()
+}
+
+/// Random runs must find a wrong program with such a report, which must stay true when replayed.
+fn finds(name: &str, report: &str, side: Side, seed: u64) -> Result<(u64, usize), String> {
     let mut driver = Driver::new(side, seed, f64::INFINITY, 400_000);
     loop {
         match driver.run() {
             Ok(()) => (),
             Err(Stop::Over) => return Err(format!("{name}: not found")),
-            Err(Stop::Found(report)) => {
-                if replay(side, &report.geo, &report.bad, &report.steps).is_none() {
+            Err(Stop::Found(found)) => {
+                if replay(side, &found.geo, &found.bad, &found.steps).is_none() {
                     return Err(format!("{name}: the shortened run does not show it"));
                 }
-                return Ok((driver.calls, report.steps.len()));
+                if !found.found.field.starts_with(report) {
+                    return Err(format!("{name}: reported as {}", found.found.field));
+                }
+                return Ok((driver.calls, found.steps.len()));
             }
         }
     }
@@ -2554,15 +2914,19 @@ fn selftest(seed: u64) -> Result<(), String> {
     let mut driver = Driver::new(right, seed, f64::INFINITY, 50_000);
     examples_hold(&mut driver)?;
     println!("E1 to E10, the trace's calls and three of M-109 hold of the plain reading");
-    let mut changes = 0;
+    let (mut changes, mut sums) = (0, 0);
     for _ in 0..20 {
         let Ok(place) = driver.some_place() else { return Err("no place".into()) };
         for call in usual_calls(&place.state.geo) {
             changes += perturbed(&place, call)?;
         }
         changes += besides_work(&place)? + guards_work(&place)?;
+        for _ in 0..20 {
+            sums += sums_work(&mut driver, &place)?;
+        }
     }
     println!("{changes} single changes of an outcome, each found and named");
+    println!("{sums} changes of what a pass counts, each breaking a sum of M-111");
     loop {
         match driver.run() {
             Ok(()) => (),
@@ -2571,8 +2935,8 @@ fn selftest(seed: u64) -> Result<(), String> {
         }
     }
     println!("{} calls of the plain reading beside itself, no difference", driver.calls);
-    for (name, side) in wrong_programs() {
-        let (calls, steps) = finds(name, side, seed)?;
+    for (name, report, side) in wrong_programs() {
+        let (calls, steps) = finds(name, report, side, seed)?;
         println!("found after {calls} calls, {steps} steps left: {name}");
     }
     Ok(())
@@ -2606,6 +2970,13 @@ const AFTER_DEAD: [(&str, u64, &[&str]); 3] = [
     ("collected after it", 10, &["0", "above 0", "-14", "-5"]),
     ("written after it", 10, &["0", "above 0", "-14", "-5"]),
 ];
+
+/// The single collections that ran, by kind; runs of `all` must meet each so often. The first five
+/// kinds are of finished ones, the others of refused ones; short of room is room < v.
+const PASSES: (&str, u64, &[&str]) = ("passes", 10, &[
+    "v = 0", "0 < v < p", "v = p", "room = v", "bad victim", "for room", "erase refused",
+    "at the device", "at the device, short of room", "bad victim, refused",
+]);
 
 struct Options {
     part: String,
@@ -2695,7 +3066,7 @@ impl Driver {
     fn print_tally(&self, all: bool) -> bool {
         let mut right = true;
         let once = ANSWERS.into_iter().map(|(entry, classes)| (entry, 1, classes));
-        let rows: Vec<_> = once.chain(AFTER_DEAD).collect();
+        let rows: Vec<_> = once.chain(AFTER_DEAD).chain([PASSES]).collect();
         for &(entry, owed, classes) in &rows {
             let met: Vec<String> = (self.tally.iter().filter(|((name, _), _)| *name == entry))
                 .map(|((_, class), times)| format!("{class}: {times}"))
@@ -2749,7 +3120,8 @@ fn compare_part(options: &Options) -> bool {
     let met = driver.print_tally(all);
     let (calls, told) = (driver.calls, driver.told);
     let (restores, some) = (driver.restores, driver.queued_some());
-    print!("{told} of the calls made in the new numbers too; ");
+    print!("{told} of the calls made in the new numbers too, ");
+    print!("{} of them passes whose sums hold; ", driver.passes);
     println!("{restores} restores under both names, {some} of them queued the dead");
     println!("seed {}, {calls} calls compared in {seconds:.1} s", options.seed);
     match stopped {

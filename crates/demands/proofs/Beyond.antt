@@ -22,7 +22,7 @@ use Rattle.model.proofs.Working.{Counted}
 use Rattle.model.proofs.Content.{page-length}
 use Rattle.model.proofs.Sealed.{drop-spliced, file-rest}
 use Rattle.model.proofs.Guard.{each, good-test, guarded-by, unless-by}
-use Rattle.demands.proofs.Passed.{tables-counted}
+use Rattle.model.proofs.Entry.{tables-sound}
 use Rattle.demands.proofs.Tested.{flips-not}
 use Rattle.demands.specs.Given.{tab, stateIn}
 
@@ -58,7 +58,7 @@ module _ (G : Geometry) (bad : List ℕ) where
         unless-by Stays _ Unmapped (lent r o s) _ refl
         (λ m.
         let e : length shown ≡ len =
-        shown-length (tables-counted G (lent r o s) (t 1) b) (eqb-true _ _ (t 2)) (eqb-false _ _ (flips-not _ m)) (leb-true _ _ d) in
+        shown-length (tables-sound G (lent r o s) (t 1) b) (eqb-true _ _ (t 2)) (eqb-false _ _ (flips-not _ m)) (leb-true _ _ d) in
         ap (λ k. drop k (splice 0 shown o)) (sym e) ∙ drop-spliced shown o ∙ ap (λ k. drop k o) e))
       where
         Stays : Outcome → Type 0
@@ -70,4 +70,4 @@ module _ (G : Geometry) (bad : List ℕ) where
       guarded-by (λ y. drop (fileSize G) (y .left .buffer) ≡ drop (fileSize G) b) _ _ _ _ (lent r b s) _ refl refl
       (λ a c _ _.
       let t : (i : ℕ) → _ = each (good? G ∷ tablesFit G (lent r b s) ∷ leb (fileSize G) (length b) ∷ clean (seenScratch G ∷ []) s ∷ []) a in
-      file-rest G (good-test G (t 0)) (tab G r) (tables-counted G (lent r b s) (t 1) c) b)
+      file-rest G (good-test G (t 0)) (tab G r) (tables-sound G (lent r b s) (t 1) c) b)

@@ -40,8 +40,7 @@ use Rattle.model.proofs.Write.{Wrote, wrote}
 use Rattle.model.proofs.Taken.{taken-sound, victim-flag, victim-full, victim-seg}
 use Rattle.model.proofs.Collect.{Kept, last-in, copied, collected, collected-list, collected-threshold}
 use Rattle.model.proofs.Guard.{each, guarded-by}
-use Rattle.model.proofs.Entry.{Fits, Begun, Stayed, opened-or, restored-or, read-unit, encoding-unit}
-use Rattle.demands.proofs.Passed.{all-passed}
+use Rattle.model.proofs.Entry.{Fits, all-fit, Begun, Stayed, opened-or, restored-or, read-unit, encoding-unit}
 use Rattle.demands.proofs.Unchanged.{formats-all}
 use Rattle.demands.proofs.Ends.{DrainEnd, DrainEnds, drain-ends}
 use Rattle.demands.proofs.Marked.{ever, marked-restores}
@@ -256,7 +255,7 @@ module _ (G : Geometry) (bad : List ℕ) where
   collecting-marked x o h keeps marks =
       guarded-by Marks _ _ _ _ x _ h h
       (λ a b _ _.
-      let X : Fits G bad x = all-passed G bad _ x a b in
+      let X : Fits G bad x = all-fit G bad _ x a b in
       put-marked x o (keeps (X .good) (X .counted) (X .fit) .sound) (marks (X .good) (X .counted) (X .fit)))
 
   writing-marked : (sector len : ℕ) (d : List ℕ) (x : Lent) → MarkedIn G (x .unit) → Marks (write G bad sector len d x)
@@ -265,7 +264,7 @@ module _ (G : Geometry) (bad : List ℕ) where
       guarded-by Marks _ _ _ _ x _ h h
       (λ a b c f.
       let t : (i : ℕ) → _ = each (allFits G bad (pageScratch G ∷ seenScratch G ∷ []) x ∷ leb len (length d) ∷ []) a in
-      let X : Fits G bad x = all-passed G bad _ x (t 0) b in
+      let X : Fits G bad x = all-fit G bad _ x (t 0) b in
       let o : Out = writePage G bad (logicalPage G sector) (offset G sector) (take len d) (stateOf G x) in
       let w : Wrote G (stateOf G x) (logicalPage G sector) (offset G sector) (take len d) o =
       wrote G (X .good) bad (stateOf G x) (X .counted) (X .fit) (logicalPage G sector) (offset G sector) (take len d) (ltb-true _ _ c)

@@ -30,8 +30,7 @@ use Rattle.model.proofs.Ops.{perform-append}
 use Rattle.model.proofs.View.{view-packed}
 use Rattle.model.proofs.Write.{Wrote, wrote}
 use Rattle.model.proofs.Guard.{each, guarded-by, unless-by}
-use Rattle.model.proofs.Entry.{SoundIn, Fits, packed-in}
-use Rattle.demands.proofs.Passed.{all-passed}
+use Rattle.model.proofs.Entry.{SoundIn, Fits, all-fit, packed-in}
 use Rattle.demands.proofs.Ends.{WriteEnds, write-ends, pass-ends}
 use Rattle.demands.proofs.Unchanged.{stays, formats-all}
 use Rattle.model.proofs.Collect.{Kept, collected, collected-list, collected-threshold}
@@ -179,7 +178,7 @@ module _ (G : Geometry) (bad : List ℕ) where
       (tested (Write sector len d s) k x Unsound tt)
       (λ a b c f e.
       let t : (i : ℕ) → _ = each (allFits G bad (pageScratch G ∷ seenScratch G ∷ []) x ∷ leb len (length d) ∷ []) a in
-      let X : Fits G bad x = all-passed G bad _ x (t 0) b in
+      let X : Fits G bad x = all-fit G bad _ x (t 0) b in
       let w : Wrote G (stateOf G x) (logicalPage G sector) (offset G sector) (take len d) o =
       wrote G (X .good) bad (stateOf G x) (X .counted) (X .fit) (logicalPage G sector) (offset G sector) (take len d) (ltb-true _ _ c)
       (rw (length-take-le len d (leb-true _ _ (t 1))) (leb-true _ _ f)) in (
@@ -205,7 +204,7 @@ module _ (G : Geometry) (bad : List ℕ) where
   collecting-loud c k x o keeps ends =
       guarded-by (Loud c k x) _ _ _ _ x _ (tested c k x Wrong tt) (tested c k x Unsound tt)
       (λ a b _ _ e.
-      let X : Fits G bad x = all-passed G bad _ x a b in
+      let X : Fits G bad x = all-fit G bad _ x a b in
       (put-back c k x o (keeps (X .good) (X .counted) (X .fit) .sound) (λ _. ends (X .good) (X .counted) (X .fit) e), refl, refl))
 
   -- the calls that only test

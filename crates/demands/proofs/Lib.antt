@@ -26,6 +26,8 @@ pub mod Served
 pub mod Told
 -- 02, M-109: what a restore leaves under either choice
 pub mod Queued
+-- 02, M-111: what a collection gains
+pub mod Gained
 -- the sort of the queue and the walk over the segments
 pub mod Order
 -- premises that can be met

@@ -1,24 +1,25 @@
--- The premises of Leaves, Signs, Seen, Fresh, Marked, Kept, PowerOn, Served, Told and Queued can be met: two units of device A and A3, by computation. Exactly
+-- The premises of Leaves, Signs, Seen, Fresh, Marked, Kept, PowerOn, Served, Told, Queued and Gained can be met: two units of device A and A3, by computation. Exactly
 -- asks nothing.
-use Prim.Native.Nat.{ℕ, _≤_, _<_}
+use Prim.Native.Nat.{ℕ, _+_, _-_, _≤_, _<_}
 use native.Mathlib.Omega.{arith}
 use mathlib.Core.Path.{_≡_, refl}
+use mathlib.Core.Logic.{_≢_}
 use mathlib.Core.List.{List, [], _∷_, _++_}
-use lib.IntN.{pos}
+use lib.IntN.{pos, negsuc}
 use lib.ListN.{take, replicate}
 use Rattle.crc32.specs.Crc32.{plus, add, among, powers, low, remainder, bitsOf, bits, digit, number as valueOf, dividend, crc32}
 use Rattle.model.specs.declared.Geometry.{Geometry}
-use Rattle.model.specs.declared.Numbers.the-variants.{Old}
+use Rattle.model.specs.declared.Numbers.the-variants.{Old, New}
 use Rattle.model.specs.declared.Answer.the-variants.{Moved, Refused}
 use Rattle.model.specs.declared.Cause.the-variants.{Wrong, Unmapped, NoRoom, Device, CopyNoRoom, CopyDevice, Erase, Reason}
 use Rattle.model.specs.Lists.{without, pushFront, insertBy, sortBy, splice, total, occ, all, every, blank, upTo, bit, zeros}
-use Rattle.model.specs.Numbers.{good?, endless}
+use Rattle.model.specs.Numbers.{good?, endless, number}
 use Rattle.model.specs.Tables.{at, queueOf, view, packed}
 use Rattle.model.specs.Sound.{names, soundb}
 use Rattle.model.specs.Device.{Flash, flash, burn, mayProgram, mayErase, formatFrom, formattedFlash}
 use Rattle.model.specs.PageMap.{clearFrom, findFrom, find, invalidate, forget}
 use Rattle.model.specs.PageWrite.{oldPage, writeAt, writePage}
-use Rattle.model.specs.PageGc.{sorted, finishOf, drain, collectOf, collect, collectMore, collectList, collectThreshold}
+use Rattle.model.specs.PageGc.{sorted, listedOf, outside, finishOf, drain, collectOf, collect, collectMore, collectList, collectThreshold}
 use Rattle.model.specs.Checkpoint.{fresh, usedBy, word, long, words, wordAt, longAt, wordsAt, head, file, reasonOf, welcome, settleAll, restored, queueDead, dead?, deadOnes}
 use Rattle.model.specs.Entry.{Recorder, recorder, unless, guarded, clean, formatting, opening, read, write, collection, listCollection, thresholdCollection, encoding, restoring}
 use Rattle.model.specs.declared.Queueing.{Queueing}
@@ -29,6 +30,7 @@ use Rattle.model.specs.History as history
 use Rattle.model.proofs.Guard.{good-test}
 use Rattle.model.proofs.Entry.{tab}
 use Rattle.model.proofs.Witness as witness
+use Rattle.demands.specs.Given.{Exactly}
 use Rattle.demands.specs.Left.{Leaves}
 use Rattle.demands.specs.Unit.{burnt, MarkedIn, Shows, Ever, start, cut, FromOpening, opens, calls, regains}
 use Rattle.demands.proofs.Leaves.{leaves}
@@ -38,6 +40,8 @@ use Rattle.demands.proofs.Seen.{read-after-write, read-behind-collectio
 use Rattle.demands.proofs.Kept.{unit-restores}
 use Rattle.demands.proofs.Served.{serves, refused-by-the-fuse}
 use Rattle.demands.proofs.Told.{told-by-the-fuse}
+use Rattle.demands.proofs.Signs as signs
+use Rattle.demands.proofs.Gained.{collect-gains, full-only, full-whenever, write-takes, room-exactly}
 use Rattle.demands.proofs.Queued.{saved-queued}
 use Rattle.demands.proofs.PowerOn.{powered-read, powered-encode, powered-restore}
 
@@ -211,16 +215,20 @@ pub record Serving : Type 0 where
   by-the-fuse : after A bad (put 8 4) (lit 0 late) .flash .fuse ≡ 0
   told : after A bad (Collect gc) (lit 0 unit) .flash .fuse ≡ 0
 
+unit-serves : InService A unit
+unfolding good? every
+unit-serves =
+    let i : InService A (after A bad Open (after A bad Format any)) =
+    serves A (good-test A refl) bad (replicate 16 7) (replicate 4 9) (replicate 2 8) endless refl refl refl (omega arith) in
+    history.called (history.called (history.called i bad (put 0 1) (λ z. absurd z)) bad (put 4 2) (λ z. absurd z)) bad (put 0 3) (λ z. absurd z)
+
 served : Serving
 unfolding
     without pushFront insertBy sortBy splice total occ all every blank upTo good? view packed names soundb burn mayProgram mayErase formatFrom
     clearFrom findFrom find invalidate forget oldPage writeAt writePage sorted finishOf drain collectOf collect usedBy reasonOf unless guarded clean
     formatting opening write collection restoring
 served =
-    let i : InService A (after A bad Open (after A bad Format any)) =
-    serves A (good-test A refl) bad (replicate 16 7) (replicate 4 9) (replicate 2 8) endless refl refl refl (omega arith) in
-    let u : InService A unit =
-    history.called (history.called (history.called i bad (put 0 1) (λ z. absurd z)) bad (put 4 2) (λ z. absurd z)) bad (put 0 3) (λ z. absurd z) in
+    let u : InService A unit = unit-serves in
     let r : InService A (after A bad (Restore Empty [] (zeros 4 ∷ [])) (after A bad (Collect gc) unit)) =
     history.called (history.called u bad (Collect gc) (λ z. absurd z)) bad (Restore Empty [] (zeros 4 ∷ [])) (λ _. tt) in
     let l : InService A late = history.lent-fuse (history.called (history.lent-fuse r 1) bad Format (λ z. absurd z)) endless in
@@ -230,6 +238,38 @@ served =
       spent = refl;
       by-the-fuse = refused-by-the-fuse A bad (history.lent-fuse l 0) 8 4 (replicate 4 4) (zeros 4 ∷ zeros 4 ∷ []) {N = Old} (record { left-is = refl; answer-is = refl });
       told = told-by-the-fuse A bad (history.lent-fuse u 0) (Collect gc) (record { left-is = refl; answer-is = refl });
+    }
+
+-- the unit's victim has one listed page: its collection finishes and gains one. With page 2 written too, which spends a page, there is no room, and it is refused
+pub record Gainful : Type 0 where
+  finishes : total (tab A (after A bad (Collect gc) unit) .free) ≡ 1 + (2 - 1)
+  spends : total (tab A full .free) + 1 ≡ 1
+  short : outside bad (tab A full .free) < 1
+  exactly : Exactly (negsuc 27 ≡ number New (Refused CopyNoRoom)) (outside bad (tab A full .free) < listedOf (tab A full))
+  whenever : negsuc 27 ≡ number New (Refused CopyNoRoom)
+
+gainful : Gainful
+unfolding
+    without pushFront insertBy sortBy splice total occ all every blank upTo good? view packed names soundb burn mayProgram mayErase formatFrom
+    clearFrom findFrom find invalidate forget oldPage writeAt writePage sorted outside finishOf drain collectOf collect usedBy unless guarded clean
+    formatting opening write collection
+gainful =
+    let f : InService A full = history.called unit-serves bad (put 8 4) (λ z. absurd z) in
+    let some : 0 < tab A unit .queued = omega arith in
+    let w : negsuc 27 ≢ negsuc 21 = signs.unlike 27 21 (omega arith) in
+    let u : negsuc 27 ≢ negsuc 116 = signs.unlike 27 116 (omega arith) in
+    record {
+      finishes = collect-gains A bad gc unit {N = Old} some (record { left-is = refl; answer-is = refl }) .0;
+      spends =
+          write-takes A bad (zeros 4 ∷ zeros 4 ∷ []) unit {N = New} 8 4 (replicate 4 4) (record { left-is = refl; answer-is = refl })
+          (signs.unlike-count 4 21)
+          (signs.unlike-count 4 116)
+          (signs.unlike-count 4 27)
+          .0;
+      short = full-only A bad gc full (record { left-is = refl; answer-is = refl }) .0;
+      exactly = room-exactly A bad gc f some {N = New} (record { left-is = refl; answer-is = refl }) w u;
+      whenever =
+          full-whenever A bad gc full {N = New} some (record { left-is = refl; answer-is = refl }) w u (signs.unlike 27 120 (omega arith)) (omega arith);
     }
 
 -- why an accepted formatting is left out of `Ordinary`: it erases under the tables

@@ -27,11 +27,10 @@ use Rattle.model.proofs.View.{view-packed}
 use Rattle.model.proofs.Content.{content-empty, content-mapped}
 use Rattle.model.proofs.Write.{Own, Wrote, wrote, old-length}
 use Rattle.model.proofs.Guard.{each, test-good, test-tables, guarded-by, guarded-passes, unless-passes}
-use Rattle.model.proofs.Entry.{SoundIn, Fits, packed-in, counted-in, collect-content, list-content, threshold-content}
+use Rattle.model.proofs.Entry.{SoundIn, Fits, all-fit, packed-in, counted-in, collect-content, list-content, threshold-content}
 use Rattle.model.proofs.Working.{Counted}
 use Rattle.model.proofs.Collect.{Kept, collected, collected-list, collected-threshold}
 use Rattle.model.specs.Contract.{Fit}
-use Rattle.demands.proofs.Passed.{all-passed}
 use Rattle.demands.specs.Given.{stateIn, tab}
 use Rattle.demands.specs.Unit.{Shows, Collects}
 
@@ -160,7 +159,7 @@ module _ (G : Geometry) (bad : List ℕ) where
         (λ _. unchanged)
         (λ _. unchanged)
         (λ a b _ _ e.
-        let X : Fits G bad (lent r [] s) = all-passed G bad _ (lent r [] s) a b in
+        let X : Fits G bad (lent r [] s) = all-fit G bad _ (lent r [] s) a b in
         let k : Kept G (stateIn G r) o = keeps (X .good) (X .counted) (X .fit) in
         read-by-content G bad sector len _ t (back G (lent r [] s) o .left .unit) r (packed-in G (o .st .tab) (o .st .flash) (k .sound))
         (record { words-size = X .words-size; used-size = X .used-size; sound = counted-sound G (tab G r) (X .counted) })
@@ -206,7 +205,7 @@ read-back G bad sector len m d s r e o s′ ho tidy =
     (λ q. absurd (let z : _≡_ {A = ℕ} 0 1 = cc in omega arith))
     (λ a b c f q.
     let t : (i : ℕ) → _ = each (allFits G bad (pageScratch G ∷ seenScratch G ∷ []) x ∷ leb len (length d) ∷ []) a in
-    let X : Fits G bad x = all-passed G bad _ x (t 0) b in
+    let X : Fits G bad x = all-fit G bad _ x (t 0) b in
     let n : length (take len d) ≡ len = length-take-le len d (leb-true _ _ (t 1)) in
     let w : Wrote G (stateOf G x) (logicalPage G sector) (offset G sector) (take len d) inner =
     wrote G (X .good) bad (stateOf G x) (X .counted) (X .fit) (logicalPage G sector) (offset G sector) (take len d) (ltb-true _ _ c)

@@ -24,8 +24,7 @@ use Rattle.model.proofs.Working.{Counted}
 use Rattle.model.proofs.Taken.{victim-seg}
 use Rattle.model.proofs.Reset.{not-here}
 use Rattle.model.proofs.Guard.{guarded-by}
-use Rattle.model.proofs.Entry.{Fits, read-unit, encoding-unit}
-use Rattle.demands.proofs.Passed.{all-passed}
+use Rattle.model.proofs.Entry.{Fits, all-fit, read-unit, encoding-unit}
 use Rattle.demands.specs.Given.{tab}
 use Rattle.demands.specs.Protocol.{Gentle, Drained, Erases}
 use Rattle.demands.proofs.Walk.{write-by, finish-by, collect-by}
@@ -131,5 +130,5 @@ module _ (G : Geometry) (bad : List ℕ) where
   drained-spares r s e =
       guarded-by (λ y. Spares G (mapIn G r) (y .ops)) _ _ _ _ (lent r [] s) _ tt tt
       (λ a b _ _.
-      let X : Fits G bad (lent r [] s) = all-passed G bad _ (lent r [] s) a b in
+      let X : Fits G bad (lent r [] s) = all-fit G bad _ (lent r [] s) a b in
       collect-spares (mapIn G r) (stateOf G (lent r [] s)) (drained-elsewhere G (tab G r) (X .counted) e))

@@ -217,6 +217,7 @@ module _ (G : Geometry) where
         words-size = A .tables .words;
         used-size = A .tables .used;
         fit = A .flash;
+        bad-size = A .bad-list;
         counted = sound-counted G (tab G r) (sized-view G (r .words) (r .used) (A .tables .words) (A .tables .used)) S;
       }
 

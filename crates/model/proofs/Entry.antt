@@ -74,9 +74,10 @@ pub record Fits (G : Geometry) (bad : List ℕ) (x : Lent) : Type 0 where
   pub words-size : length (x .unit .words) ≡ tabWords G
   pub used-size : length (x .unit .used) ≡ pages G
   pub fit : Fit G (x .unit .flash)
+  pub bad-size : length bad ≡ G .n
   pub counted : Counted G (tablesOf G x)
 
-tables-sound : (G : Geometry) (x : Lent) → tablesFit G x ≡ true → soundb G (tablesOf G x) ≡ true → Counted G (tablesOf G x)
+pub tables-sound : (G : Geometry) (x : Lent) → tablesFit G x ≡ true → soundb G (tablesOf G x) ≡ true → Counted G (tablesOf G x)
 tables-sound G x a b =
     let h : (length (x .unit .words) ≡ tabWords G) × (length (x .unit .used) ≡ pages G) = tables-test G x a in
     soundb-counted G (tablesOf G x) (sized-view G (x .unit .words) (x .unit .used) (h .0) (h .1)) b
@@ -90,6 +91,7 @@ all-fit G bad scratch x a b =
       words-size = h .0;
       used-size = h .1;
       fit = flash-test G (x .unit .flash) (t 2);
+      bad-size = eqb-true _ _ (t 3);
       counted = tables-sound G x (t 1) b;
     }
 

@@ -1,10 +1,11 @@
--- The marked examples of document 01, its trace, its limits, what its traps would get wrong, and 02's M-102 and M-109: a table; and one for M-101's numbers. Each row's
--- calls are run through the public entries, and an equation, by computation, says what every call of every row answers and all that is left behind.
+-- The marked examples of document 01, its trace, its limits, what its traps would get wrong, and 02's M-102 and M-109: a table; one for M-101's numbers; one for
+-- M-111's sums. Each row's calls are run through the public entries, and an equation, by computation, says what every call of every row answers and all that
+-- is left behind.
 use Prim.Native.Nat.{ℕ, _+_, _*_, _-_, _%_}
 use mathlib.Core.Path.{_≡_, refl}
 use mathlib.Core.List.{List, [], _∷_, _++_, map}
 use lib.IntN.{ℤ, pos, negsuc}
-use lib.ListN.{getD, set, length, replicate}
+use lib.ListN.{getD, set, length, take, replicate}
 use Rattle.crc32.specs.Crc32.{plus, add, among, powers, low, remainder, bitsOf, bits, digit, number as valueOf, dividend, crc32}
 use Rattle.model.specs.Lists.{without, pushFront, insertBy, sortBy, splice, total, occ, all, every, blank, upTo, zeros}
 use Rattle.model.specs.Numbers.{Geometry, geometry, Numbers, Old, New, number, good?, endless}
@@ -13,7 +14,7 @@ use Rattle.model.specs.Sound.{names, soundb}
 use Rattle.model.specs.Device.{Flash, flash, burn, mayProgram, mayErase, formatFrom}
 use Rattle.model.specs.PageMap.{clearFrom, findFrom, find, invalidate, forget}
 use Rattle.model.specs.PageWrite.{oldPage, writeAt, writePage}
-use Rattle.model.specs.PageGc.{sorted, finishOf, drain, collectOf, collect, collectMore, collectList, collectThreshold}
+use Rattle.model.specs.PageGc.{sorted, listedOf, outside, finishOf, drain, collectOf, collect, collectMore, collectList, collectThreshold}
 use Rattle.model.specs.Checkpoint.{usedBy, word, long, words, wordAt, longAt, wordsAt, head, file, reasonOf, welcome, settleAll, restored, queueDead, Empty, Dead}
 use Rattle.model.specs.Entry.{Recorder, recorder, noFlash, unless, guarded, clean, formatting, opening, read, encoding, restoring, write}
 use Rattle.model.specs.Entry.{collection, listCollection, thresholdCollection}
@@ -653,3 +654,76 @@ told-table =
 examples-told : map (seen New) told-table ≡ map (λ r. r .is) told-table
 unfolding seen told-table
 examples-told = refl
+
+-- ---- 02, M-111: what a pass gains
+
+-- what is seen of one collection: the victim's listed pages, the free pages outside the bad list and in all; its answer in the new numbers; the same two then
+record Gain : Type 0 where
+  listed : ℕ
+  room : ℕ
+  all-free : ℕ
+  reply : ℤ
+  room-then : ℕ
+  all-then : ℕ
+
+record Pass : Type 0 where
+  device : Geometry
+  bad : List ℕ
+  start : Recorder
+  is : Gain
+
+gains : Pass → Gain
+unfolding
+    without pushFront insertBy sortBy splice total occ all every blank upTo good? view packed names soundb burn mayProgram mayErase clearFrom findFrom find
+    invalidate forget oldPage writeAt writePage sorted outside finishOf drain collectOf collect unless guarded clean collection
+gains x =
+    let G = x .device in
+    let t = view G (x .start .words) (x .start .used) in
+    let o = run G (x .bad) (gc G) (x .start) in
+    let t′ = view G (o .left .unit .words) (o .left .unit .used) in
+    record {
+      listed = listedOf t;
+      room = outside (x .bad) (t .free);
+      all-free = total (t .free);
+      reply = number New (o .answer);
+      room-then = outside (x .bad) (t′ .free);
+      all-then = total (t′ .free);
+    }
+
+-- device B3: segment 0 is queued, with k listed pages and this valid count; segments 1 and 2 have f and f′ free pages, and no mapped one
+abbrev queued-one : (k valid f f′ : ℕ) → Tables
+queued-one k valid f f′ =
+    tables (take k (three 0 1 2) ++ replicate (4 - k) none) (three 0 f f′) (three valid 0 0)
+    (three 1 1 1 ++ (replicate (3 - f) 1 ++ (zeros f ++ (replicate (3 - f′) 1 ++ zeros f′)))) (take k (three 0 1 2) ++ zeros (9 - k)) (three k 0 0) (three 0 0 0)
+    (three 1 0 0) 0 1
+
+-- over it flash with these marks, every byte 7
+abbrev pass-of : (limit : ℕ) → List ℕ → Tables → List ℕ → Gain → Pass
+pass-of limit bad t marks g =
+    record { device = like 3 3 2 4 limit; bad = bad; start = mem t (flash (replicate 36 7) marks (three 0 0 0) endless); is = g }
+
+abbrev gain : (listed room all-free : ℕ) → ℤ → (room-then all-then : ℕ) → Gain
+gain l r a z r′ a′ = record { listed = l; room = r; all-free = a; reply = z; room-then = r′; all-then = a′ }
+
+gain-table : List Pass
+gain-table =
+    -- "raises total free pages by exactly p - v": v is 1, the valid count 2
+    pass-of 5 (three 0 0 0) (queued-one 1 2 3 0) (three 1 1 1 ++ six 0 0 0 1 1 1) (gain 1 3 3 (pos 0) 5 5)
+    -- v is 0: p; v is p: nothing
+    ∷ pass-of 5 (three 0 0 0) (queued-one 0 0 0 0) (replicate 9 1) (gain 0 0 0 (pos 0) 3 3)
+    ∷ pass-of 5 (three 0 0 0) (queued-one 3 3 3 0) (three 1 1 1 ++ six 0 0 0 1 1 1) (gain 3 3 3 (pos 0) 3 3)
+    -- "the free pages of segments outside the bad list": one, with three more in a bad segment. "fewer than v", which is 2: no room, and none is left
+    ∷ pass-of 5 (three 0 9 0) (queued-one 2 2 3 1) (three 1 1 1 ++ six 0 0 0 1 1 0) (gain 2 1 4 (negsuc 27) 0 3)
+    -- two of them are not fewer
+    ∷ pass-of 5 (three 0 9 0) (queued-one 2 2 3 2) (three 1 1 1 ++ six 0 0 0 1 0 0) (gain 2 2 5 (pos 0) 3 6)
+    -- "If the device refuses nothing": it refuses the first copy, for a mark, and there are fewer than v
+    ∷ pass-of 5 (three 0 9 0) (queued-one 2 2 3 1) (three 1 1 1 ++ six 0 0 0 1 1 1) (gain 2 1 4 (negsuc 120) 0 3)
+    -- it refuses the erase: v pages are spent
+    ∷ pass-of 0 (three 0 9 0) (queued-one 2 2 3 2) (three 1 1 1 ++ six 0 0 0 1 0 0) (gain 2 2 5 (negsuc 4) 0 3)
+    -- the victim is bad: p - v in all, and v less outside the bad list
+    ∷ pass-of 5 (three 9 0 0) (queued-one 1 1 3 0) (three 1 1 1 ++ six 0 0 0 1 1 1) (gain 1 3 3 (pos 0) 2 5)
+    ∷ []
+
+examples-gains : map gains gain-table ≡ map (λ x. x .is) gain-table
+unfolding gains gain-table
+examples-gains = refl

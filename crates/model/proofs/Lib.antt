@@ -43,6 +43,8 @@ pub mod Told
 pub mod Entry
 -- 02, M-102: no programming refused for its order
 pub mod Order
+-- 02, M-111: what a collection gains
+pub mod Gains
 -- demand 3: what a power cut leaves, and what a checkpoint gives back
 pub mod Cut
 pub mod Round

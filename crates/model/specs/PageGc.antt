@@ -21,6 +21,16 @@ victim t = at (sorted t) 0
 abbrev pub taken : Tables → Tables
 taken t = setQueue (drop 1 (sorted t) ++ (0 ∷ drop (t .queued) (t .queue))) (setQueued (t .queued - 1) t)
 
+-- 02, M-111: "a victim with v listed pages": the length of its list when it is taken; its valid count also has pages that are spent
+abbrev pub listedOf : Tables → ℕ
+listedOf t = at (t .lens) (victim t)
+
+-- "the free pages of segments outside the bad list", by the bad list and the free counts
+unfoldable pub outside : List ℕ → List ℕ → ℕ
+outside [] fs = 0
+outside (b ∷ bs) [] = 0
+outside (b ∷ bs) (f ∷ fs) = cond (eqb b 0) f 0 + outside bs fs
+
 -- "a copy gets 14 or 5"; 02, M-101: "whether no segment had room, and all that call it pass that on"
 abbrev pub ofCopy : Cause → Cause
 ofCopy Wrong = Wrong
