@@ -63,12 +63,14 @@ pub data Passed : ℕ → List Bool → Type 0 where
 pub passed_more : (i : ℕ) (bs : List Bool) → Passed i bs → get_or bs i false ≡ true → Passed (suc i) bs
 passed_more zero [] end e = absurd (let z : ◌≡◌ {A = ℕ} 0 1 = cc in omega arith)
 passed_more zero (b ∷ bs) end e = e then end
+passed_more (suc i) [] h e = elim h [ ]
 passed_more (suc i) (b ∷ bs) (d then h) e = d then passed_more i bs h e
 
 -- the tests before i pass and that one fails: it is the first
 pub first_fails : (k i : ℕ) (bs : List Bool) → Passed i bs → get_or bs i true ≡ false → first_not k bs ≡ k + i
 first_fails k zero [] h e = absurd (let z : ◌≡◌ {A = ℕ} 0 1 = cc in omega arith)
 first_fails k zero (b ∷ bs) h e = rw e (sym (add-zero k))
+first_fails k (suc i) [] h e = elim h [ ]
 first_fails k (suc i) (b ∷ bs) (d then h) e = rw d (first_fails (suc k) i bs h e ∙ omega arith)
 
 -- all pass: none is
