@@ -1,8 +1,9 @@
 // What the definitions and the code share: geometry, page numbers, what finding gives, what a call answers.
+#![tactic(auto)]
 
 // Document 01's letters: n segments of p pages of s bytes, address width w, e map entries, erase limit.
 // Every field takes any number: whether it is one of 01's is tested by each public entry.
-#[derive(Drop)]
+#[derive(Clone, Copy)]
 pub struct Geometry {
     pub n: usize,
     pub p: usize,
@@ -13,22 +14,22 @@ pub struct Geometry {
 }
 
 // "Logical page numbers and physical addresses are kept apart."
-#[derive(Drop)]
+#[derive(Clone, Copy)]
 pub struct LogicalPage(pub usize);
 
-#[derive(Drop)]
+#[derive(Clone, Copy)]
 pub struct PhysicalAddress(pub u32);
 
 // "Finding a page should say whether no segment had room": page k of segment g; on sound tables `Nothing` exactly when no segment outside the bad list has a free page (`found`,
 // proofs/Find.antt).
-#[derive(Drop)]
+#[derive(Clone, Copy)]
 pub enum Found {
     At(usize, usize),
     Nothing,
 }
 
 // The choice of numbers (02, M-101).
-#[derive(Drop)]
+#[derive(Clone, Copy)]
 pub enum Numbers {
     // 01's: 14 for no room, and for a copy that failed.
     Old,
@@ -37,7 +38,7 @@ pub enum Numbers {
 }
 
 // The choice of the queue after a restore of a version 1 file (02, M-109).
-#[derive(Drop)]
+#[derive(Clone, Copy)]
 pub enum Queueing {
     // 01's: no segment is queued.
     Empty,
@@ -46,7 +47,7 @@ pub enum Queueing {
 }
 
 // Why a call is refused. `number` of the definitions gives for each the number of document 01, or of 02 under the new choice.
-#[derive(Drop)]
+#[derive(Clone, Copy)]
 pub enum Cause {
     // Geometry, a lent size, the logical page, a page overrun, a checkpoint buffer too short.
     Wrong,
@@ -68,7 +69,7 @@ pub enum Cause {
 }
 
 // Bytes moved or passes counted, or a refusal.
-#[derive(Drop)]
+#[derive(Clone, Copy)]
 pub enum Answer {
     Moved(usize),
     Refused(Cause),
