@@ -1,4 +1,6 @@
 // The numbers of a trace, read from bytes that may be anything.
+#![tactic(auto)]
+
 ghost use Rattle.std.specs.Prelude.{◌≡◌, ◌<◌, ◌≤◌};
 ghost use Rattle.numbers.specs.Groups.{longer, groups, number};
 
