@@ -1,6 +1,6 @@
 -- A promise of an entry says what its call with clean scratch does.
 use Prim.Native.Nat.{ℕ, zero, suc, ◌-◌, ◌≤◌, ◌<◌}
-use mathlib.Core.Path.{◌≡◌, refl, sym, ap, ◌∙◌, subst}
+use mathlib.Core.Path.{◌≡◌, refl, ap, ◌∙◌, subst}
 use mathlib.Core.List.{List, [], ◌∷◌}
 use native.Mathlib.Nat.{sub-zero}
 use native.Mathlib.Omega.{arith}
@@ -26,7 +26,7 @@ does_with f {d} {c} {s} {t} {x} {z} l e g P =
     (record {
       unit_is = ap (λ (x : Lent). x.unit) P.left_is;
       buffer_is = ap (λ (x : Lent). x.buffer) P.left_is;
-      answer_is = to_z-of_z (sfits_of l) ∙ P.answer_is;
+      answer_is = to_z-of_z {w = w64} (sfits_of l) ∙ P.answer_is;
     }))
 
 pub does : (f : List (List ℕ) → Outcome) {s t : List (List ℕ)} {x : Lent} {z : ℤ} → mag z < 9223372036854775808 → s ≡ t → Promise (f s) x z

@@ -1,4 +1,6 @@
 // The public entries with clean scratch of their own, for a program that keeps none. The scratch is enough for the geometries of a trace.
+#![tactic(auto)]
+
 ghost use Rattle.std.specs.Prelude.{[], ◌∷◌, ◌+◌, ◌≤◌, length, take, drop};
 ghost use Rattle.model.specs.Lists.{zeros};
 ghost use Rattle.model.specs.Tables.{pages};
