@@ -1,4 +1,6 @@
 // The queue behind a restore (02, M-109): the segments with free count 0 and a list shorter than p, ascending, or none.
+#![tactic(auto)]
+
 ghost use Rattle.std.specs.Prelude.{◌≡◌, cond, List, ℕ, ◌<◌, ◌≤◌, length};
 ghost use Rattle.model.specs.Numbers.{Good};
 ghost use Rattle.model.specs.Tables.{at, view, tab_words, o_queued};
