@@ -2,13 +2,13 @@
 use mathlib.Core.Path.{◌≡◌, refl, sym, ap, ◌∙◌}
 use mathlib.Core.Logic.{◌≢◌}
 use mathlib.Core.Bool.{true, false}
-use mathlib.Core.List.{List, ◌++◌, append-nil, append_assoc}
+use mathlib.Core.List.{List, append_assoc}
 use Prim.Native.Nat.{ℕ, ◌+◌, ◌*◌, ◌-◌, ◌<◌, ◌≤◌}
 use native.Mathlib.Nat.{add-sub_cancel_left}
 use native.Mathlib.Numerals.{add-one}
 use native.Mathlib.Omega.{arith}
-use lib.ListN.{length, get_or, set, take, drop, replicate}
-use lib.Seq.{paste, paste-suc, take-length, drop-length, drop-drop}
+use lib.ListN.{length, get_or, set, take, drop}
+use lib.Seq.{paste, paste-suc, take-length, drop-drop}
 use borrow.Author.Tests.{eq-eqb, ne_eqb, lt-ltb, le-ltb}
 use borrow.Rule.Slice.PartMut.{put_mid}
 use Rattle.model.specs.Lists.{splice, slot, on_slot}
@@ -42,10 +42,6 @@ pub splice_end : (d : List ℕ) (at : ℕ) (s : List ℕ) {i : ℕ} {t : List �
 unfolding splice
 splice_end d at s e h = e ∙ ap (paste d at s) h ∙ rw (take-length s, append_assoc)
 
--- the end of the loop that fills
-pub fill_end : (d : List ℕ) (v i : ℕ) {t : List ℕ} → t ≡ replicate i v ++ drop i d → i ≡ length d → t ≡ replicate (length d) v
-fill_end d v i e h = e ∙ rw (h, drop-length d, append-nil)
-
 -- where page k of segment g lies, and what is lent of the bytes there
 module _ {G : Geometry} (K : Good G) {g k : ℕ} (hg : g < G.n) (hk : k < G.p) where
   abbrev start : ℕ
@@ -58,9 +54,6 @@ module _ {G : Geometry} (K : Good G) {g k : ℕ} (hg : g < G.n) (hk : k < G.p) w
   page_end = part_fits G.s page_in
 
   -- the marks of the page and of those above it
-  pub row_end : g * G.p + G.p ≤ pages G
-  row_end = part_fits G.p hg
-
   pub rest_is : (marks : List ℕ) → region (g * G.p + k) (g * G.p + G.p - (g * G.p + k)) marks ≡ drop k (slot G.p g marks)
   rest_is marks =
       let m : g * G.p + G.p - (g * G.p + k) ≡ G.p - k = omega arith in
@@ -80,16 +73,6 @@ module _ {G : Geometry} (K : Good G) {g k : ℕ} (hg : g < G.n) (hk : k < G.p) w
       pub page_laid : {part : List ℕ} → part ≡ splice 0 page (region start (start + G.s - start) bytes)
           → put_mid start (start + G.s - start) bytes part ≡ on_slot G.s (g * G.p + k) (λ _. page) bytes
       page_laid {part} e = part_back bytes part start G.s (λ _. page) (e ∙ splice-whole G page _ (hp ∙ sym page_size))
-
--- the part of segment g filled with one number, in a list that has m of each segment
-module _ {n g : ℕ} (hg : g < n) (m v : ℕ) (w : List ℕ) (hw : length w ≡ n * m) where
-  pub segment_end : g * m + m ≤ length w
-  segment_end = omega (arith, part_fits m hg)
-
-  pub segment_filled : {part : List ℕ} → part ≡ replicate (length (region (g * m) (g * m + m - g * m) w)) v
-      → put_mid (g * m) (g * m + m - g * m) w part ≡ on_slot m g (λ _. replicate m v) w
-  segment_filled {part} e =
-      part_back w part (g * m) m (λ _. replicate m v) (e ∙ ap (λ x. replicate x v) (part_length w (g * m) m segment_end))
 
 -- the answer to each outcome of an operation's tests
 module _ (G : Geometry) (g k : ℕ) (f : Flash) {done after : Flash} where

@@ -1,4 +1,6 @@
 // The flash: pages are programmed and read, segments erased and formatted. The fuse says how many operations are still done.
+#![tactic(auto)]
+
 ghost use Rattle.std.specs.Prelude.{◌≡◌, List, ℕ, ◌+◌, ◌*◌, ◌<◌, ◌≤◌, length, set, drop, replicate};
 ghost use Rattle.model.specs.Lists.{splice, slot, blank};
 ghost use Rattle.model.specs.Numbers.{Good};
