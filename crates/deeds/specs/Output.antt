@@ -5,7 +5,7 @@ use Rattle.model.specs.Lists.{zeros}
 use Rattle.model.specs.Numbers.{endless}
 use Rattle.model.specs.Tables.{pages, tab_words}
 use Rattle.model.specs.Device.{flash}
-use Rattle.model.specs.Entry.{Recorder, recorder}
+use Rattle.model.specs.Entry.{recorder}
 use Rattle.model.specs.History as call
 use Rattle.records.specs.declared.Header.{Header}
 use Rattle.records.specs.declared.Header.TheVariants.{Ready, Form, Values}

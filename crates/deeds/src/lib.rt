@@ -1,4 +1,6 @@
 // What the records of a trace do: each is one call of a public entry, and gives one line.
+#![tactic(auto)]
+
 ghost use Rattle.std.specs.Prelude.{◌≡◌, ◌+◌, ◌*◌, ◌≤◌, min, [], ◌∷◌, length, take};
 ghost use Rattle.model.specs.Lists.{splice, zeros};
 ghost use Rattle.model.specs.Tables.{pages};
