@@ -8,7 +8,7 @@ use native.Mathlib.Nat.{le_of_suc-le-suc, add_assoc, add-zero}
 use native.Mathlib.Numerals.{add-one, unary_clauses}
 use native.Mathlib.Omega.{arith}
 use lib.ListN.{length, get_or, set, take, drop, length-append, length-take, length-drop, take-append-drop, drop_of_length-le, replicate-append-replicate}
-use lib.Seq.{paste, paste-zero, paste-suc, length_paste_head, drop-cons, take_all, take-suc, set_at, append_snoc, length-take-le, get_or-append-add, get_or-drop, drop-length, take-add, take_at, drop-drop}
+use lib.Seq.{paste, paste-suc, length_paste_head, drop-cons, take_all, take-suc, set_at, append_snoc, length-take-le, get_or-append-add, get_or-drop, drop-length, take-add, take_at, drop-drop}
 use lib.Dec.{eqb}
 use borrow.Author.Tests.{eq-eqb}
 use Rattle.model.specs.Lists.{bit, occ, without, push_front, zeros}
@@ -75,9 +75,6 @@ module _ (s : List ℕ) (i m : ℕ) where
   head-long : i + m + 1 ≤ length s → length (take i s ++ take m (drop (suc i) s)) ≡ i + m
   head-long h = length_paste_head s i (drop (suc i) s) m (omega arith) (rw length-drop (omega arith))
 
-  pub close_length : i + m + 1 ≤ length s → length closing ≡ length s
-  close_length h = rw (length-append, head-long h, length-drop) (omega arith)
-
   pub close_read : i + m + 1 < length s → get_or closing (i + m + 1) 0 ≡ get_or (drop (suc i) s) m 0
   close_read h =
       let hl : i + m + 1 ≤ length s = omega arith in
@@ -103,9 +100,6 @@ module _ (s : List ℕ) (i m : ℕ) where
       ∙ ap (λ (r : List ℕ). set (take i s ++ take m (drop (suc i) s) ++ r) (i + m) 0) (drop-cons s (i + m) 0 (omega arith))
       ∙ set_at (take i s ++ take m (drop (suc i) s)) _ (drop (suc (i + m)) s) 0 (i + m) (head-long hl)
       ∙ rw (drop_of_length-le s nil, take_all m (drop (suc i) s) all, append_assoc)
-
-pub close_none : (s : List ℕ) (i : ℕ) → s ≡ paste s i (drop (suc i) s) 0
-close_none s i = paste-zero s i (drop (suc i) s)
 
 -- a slot without x, by where x stands
 
@@ -174,9 +168,6 @@ module _ (x : ℕ) (q : List ℕ) (i : ℕ) where
 
   push_head : i ≤ length q → length (take i (x ∷ q)) ≡ i
   push_head h = length-take-le i (x ∷ q) (omega arith)
-
-  pub push_length : i ≤ length q → length pushing ≡ length q
-  push_length h = rw (length-append, push_head h, length-drop) (omega arith)
 
   pub push_read : i < length q → get_or pushing i 0 ≡ get_or q i 0
   push_read h =

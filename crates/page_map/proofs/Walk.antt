@@ -67,8 +67,8 @@ module _ (G : Geometry) (bad w u : List ℕ) (i : ℕ) (h : i < G.n) (g : ℕ) (
 
   -- one step, by the two tests
   walk_step : from G bad w u i ≡ cond (usable G bad (view G w u) g) (or_else (scan G u g 0) next) next
-  unfolding find_from
-  walk_step = rw (step h, is, add-one i, sub-zero, used_is G w u)
+  unfolding find_from view
+  walk_step = rw (step h, is, add-one i, sub-zero, used_is G w u) refl
 
   pub walk_bad : at bad g ≢ 0 → from G bad w u i ≡ next
   walk_bad b = rw (walk_step, ne_eqb _ _ b)

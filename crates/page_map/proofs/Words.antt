@@ -17,7 +17,7 @@ use Rattle.model.proofs.Slots.{part_fits, below_part, drop-take}
 use Rattle.model.proofs.Reading.{names_one}
 use Rattle.model.proofs.Unlink.{len_pos, mapped_lt}
 use Rattle.model.proofs.Regions.{on_part, on_part_length, region-length}
-use Rattle.model.proofs.View.{map_at, free_at, valid_at, lens_at, row_at, queued_at, used_is, set-map, set_free_lem, set_valid_lem, set_lens_lem, set_flags_lem, set_alloc_lem, set_queued_lem, set_lists_lem, set_used_lem, queue_whole, row_back, Row, row, Heads, heads}
+use Rattle.model.proofs.View.{map_at, free_at, valid_at, lens_at, row_at, queued_at, used_is, set-map, set_free_lem, set_valid_lem, set_lens_lem, set_flags_lem, set_alloc_lem, set_queued_lem, set_lists_lem, set_used_lem, queue_whole, row_back, Row, row}
 use Rattle.model.proofs.Held.{counted}
 use Rattle.page_map.specs.Parts.{Room}
 use Rattle.page_map.proofs.Parts.{length_without, length_push, without_front, push_zero, zeros_part, part_front}
@@ -32,13 +32,10 @@ get_d_any (x ∷ xs) (suc i) a b h = get_d_any xs i a b (omega arith)
 pub map-word : (G : Geometry) (w : List ℕ) (l : ℕ) → length w ≡ tab_words G → l < G.e → (u : List ℕ) → at w l ≡ word_of (view G w u) l
 map-word G w l h hl u = get_d_any w l 0 empty (omega arith) ∙ sym (map_at G w u l empty hl)
 
--- the words of a segment and those that stand alone, in sound tables
+-- the words of a segment, in sound tables
 module _ {G : Geometry} {w u : List ℕ} (H : Held G w u) where
   pub row_of : (g : ℕ) → g < G.n → Row G w g
   row_of = row G w u (counted H)
-
-  pub heads_of : Heads G w
-  heads_of = heads G w u (counted H)
 
 -- where l is mapped into segment g
 pub record Linked (G : Geometry) (w : List ℕ) (l g : ℕ) : Type 0 where

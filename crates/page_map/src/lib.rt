@@ -1,4 +1,6 @@
 // Steps 2 and 4 of document 01 on the packed tables: finding a page, spending it, invalidating, placing.
+#![tactic(auto)]
+
 ghost use Rattle.std.specs.Prelude.{◌≡◌, List, ℕ, ◌^◌, ◌≤◌, ◌<◌, eqb, length};
 ghost use Rattle.model.specs.Lists.{occ, without, push_front};
 ghost use Rattle.model.specs.Numbers.{Good, empty, addr, seg_of, page_of};
