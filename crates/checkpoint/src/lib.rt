@@ -1,4 +1,6 @@
 // Step 6 of document 01 and its "Checkpoint" on the packed tables: opening, the file's bytes, its nine tests, restoring.
+#![tactic(auto)]
+
 ghost use Rattle.std.specs.Prelude.{◌≡◌, cond, List, ◌++◌, ℕ, ◌+◌, ◌*◌, ◌^◌, ◌≤◌, ◌<◌, ltb, length, take, drop, replicate};
 ghost use Rattle.crc32.specs.Crc32.{crc32};
 ghost use Rattle.model.specs.Lists.{splice, zeros, up_to};

@@ -1,0 +1,22 @@
+-- `encode` meets its contract: the body is laid in, the head before it, the sum between them.
+use Rattle.std.proofs.Common.{◌≡◌, ◌≤◌, ◌+◌, ◌*◌, ◌-◌, length, ap, ◌∙◌, arith}
+use Rattle.model.specs.Lists.{splice}
+use Rattle.model.specs.Tables.{at, region, o_alloc}
+use Rattle.checkpoint.proofs.Encoded.{encoded, body_is, body_long}
+use Rattle.checkpoint.proofs.encode.Goals as goal
+
+pub returns : goal.returns
+returns c u =
+    let G = c.args.geo in
+    let w = c.args.tab.now in
+    let d = c.args.buffer.now in
+    let body = region 0 (G.e + G.n - 0) w in
+    let long : length body ≡ G.e + G.n = body_long G w c.requires.tab_len.0 in
+    let size : c.file_size-size.result ≡ 44 + 4 * length body = omega (arith, c.file_size-size.ensures) in
+    let fits : 44 + 4 * length body ≤ length d = omega (arith, c.requires.tab_len.1) in
+    c.put_word.ensures
+    ∙ encoded G (at w (o_alloc G)) body d fits c.put_words.new.d c.put_head.new.d c.put_words.ensures c.put_head.ensures c.file_size-size.result
+    c.file_crc-crc.result
+    size
+    c.file_crc-crc.ensures
+    ∙ ap (λ z. splice 0 z d) (body_is G w u)

@@ -1,0 +1,9 @@
+-- `file_crc` meets its contract: the second part goes to the end.
+use Rattle.std.proofs.Common.{◌-◌, length, drop, length-drop, arith}
+use lib.Seq.{take_all}
+use Rattle.checkpoint.proofs.file_crc.Goals as goal
+
+pub returns : goal.returns
+returns c =
+    let s = c.args.file.now in
+    cc (take_all (length s - 44) (drop 44 s) (rw length-drop (omega arith)))
