@@ -1,22 +1,19 @@
--- Laws of the loops over a whole slice: `unlike` and `total` one element at a time from the front, and a flag for each element passed.
+-- Laws of the loops over a whole slice: `unlike` and `total` one element at a time from the front, and what is known of the elements passed.
 use Prim.Native.Nat.{ℕ, suc, ◌+◌, ◌-◌, ◌≤◌, ◌<◌}
 use native.Mathlib.Numerals.{add-one}
 use native.Mathlib.Omega.{arith}
 use mathlib.Core.Path.{◌≡◌, refl, sym, ap, ◌∙◌}
-use mathlib.Core.Bool.{Bool, true, false}
+use mathlib.Core.Bool.{true}
 use mathlib.Core.List.{List, [], ◌∷◌}
 use lib.ListN.{length, drop, drop_of_length-le}
 use lib.Seq.{drop-cons}
-use borrow.Author.Count.{below_more}
 use borrow.Author.Tests.{eq-eqb, ne_eqb}
 use Rattle.model.specs.Lists.{blank, total}
 use Rattle.model.specs.Tables.{at, region}
 use Rattle.model.proofs.Regions.{region-at, region-length}
-use Rattle.model.proofs.Official.{Says}
 use Rattle.model.proofs.Guard.{blank_is}
 use Rattle.model.proofs.Base.{same_replicate}
 use Rattle.sound.specs.Steps.{Every, unlike}
-use Rattle.sound.proofs.Says.{says_iff}
 
 module _ (v : ℕ) (s : List ℕ) (i : ℕ) (h : i < length s) where
   pub unlike_more : (at s i ≡ v → ⊥) → unlike v (drop i s) ≡ suc (unlike v (drop (i + 1) s))
@@ -52,16 +49,9 @@ module _ (v : ℕ) (xs : List ℕ) (a n : ℕ) (fits : a + n ≤ length xs) wher
       let b : k < n = omega (arith, region-length a n xs fits) in
       region-at a n xs k 0 b ∙ h (a + k) (omega arith) (omega arith)
 
--- every element passed is v: one that is not v clears the flag, one that is v leaves it
+-- every element before i is v
 abbrev pub Upto : ℕ → List ℕ → ℕ → Type 0
 Upto v s i = (k : ℕ) → k < i → at s k ≡ v
-
-module _ (v : ℕ) (s : List ℕ) (i : ℕ) where
-  pub upto_other : (at s i ≡ v → ⊥) → {b : Bool} → b ≡ false → Says b (Upto v s (i + 1))
-  upto_other ne e = rw e (λ all. ne (all i (omega arith)))
-
-  pub upto_more : at s i ≡ v → {a b : Bool} → b ≡ a → Says a (Upto v s i) → Says b (Upto v s (i + 1))
-  upto_more here {a} e h = rw e (says_iff a (λ all. below_more _ i all here) (λ all k l. all k (omega arith)) h)
 
 -- the test of a scratch: it passes exactly where every element is 0
 pub blank-every : (s : List ℕ) → blank s ≡ true → Every 0 s

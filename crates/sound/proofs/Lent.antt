@@ -4,21 +4,12 @@ use native.Mathlib.Nat.{add-sub_cancel_left}
 use native.Mathlib.Omega.{arith}
 use mathlib.Core.Path.{◌≡◌, refl, sym, ap, ap₂, ◌∙◌}
 use mathlib.Core.List.{List}
-use lib.ListN.{length, take, length-take, length-drop}
+use lib.ListN.{length, take}
 use Rattle.model.specs.declared.Geometry.{Geometry}
 use Rattle.model.specs.Tables.{at, region, view, queue_of, o_free, o_valid, o_lens, o_queue, o_flags, o_alloc, o_queued, o_lists}
 use Rattle.model.proofs.View.{alloc_at, queued_at, queue_at, free_at, valid_at, lens_at, flags_at, used_is, front_at, row_at}
-use Rattle.model.proofs.Regions.{part_length}
 use Rattle.sound.specs.Steps.{Every, Queue, Right, Segment, Heads, Words}
 use Rattle.sound.proofs.Counts.{part_each, each_part}
-
--- as many free counts and flags as segments
-module _ (G : Geometry) (w : List ℕ) (W : Words G w) where
-  pub free_length : length (region (o_free G) (o_free G + G.n - o_free G) w) ≡ G.n
-  free_length = part_length w (o_free G) G.n (omega (arith, W.size))
-
-  pub flags_length : length (region (o_queue G + G.n) (o_alloc G - (o_queue G + G.n)) w) ≡ G.n
-  flags_length = simp (length-take, length-drop) (omega (arith, W.size))
 
 module _ (G : Geometry) (w u : List ℕ) where
   abbrev n : ℕ

@@ -1,35 +1,24 @@
 -- Marks set in a scratch, one for each key that was passed, and no key passed twice. `key j` is the key of entry j.
---     marked_none    with none passed, a clean scratch
---     marked_more    a key whose mark is 0 is passed, and its mark set
 use Prim.Native.Nat.{ℕ, ◌+◌, ◌<◌}
-use native.Mathlib.Nat.{not-suc-le-zero, eq-or-lt_of_le}
+use native.Mathlib.Nat.{eq-or-lt_of_le}
 use native.Mathlib.Omega.{arith}
 use mathlib.Core.Path.{◌≡◌, sym, ap, ◌∙◌}
 use mathlib.Core.Logic.{◌≢◌, ◌⊎◌, inl, inr}
 use mathlib.Core.List.{List}
 use lib.ListN.{length, set}
 use lib.Seq.{get_or-set_same, get_or-set_other}
-use Rattle.model.specs.Lists.{zeros}
 use Rattle.model.specs.Tables.{at}
 use Rattle.model.proofs.Slots.{same?}
-use Rattle.model.proofs.Base.{same_replicate}
 
 pub record Marked (key : ℕ → ℕ) (i : ℕ) (seen : List ℕ) : Type 0 where
   pub hit : (k : ℕ) → at seen k ≢ 0 → (j : ℕ) × (j < i) × (key j ≡ k)
   pub kept : (j : ℕ) → j < i → at seen (key j) ≡ 1
   pub apart : (j k : ℕ) → j < i → k < i → key j ≡ key k → j ≡ k
 
-pub marked_none : (key : ℕ → ℕ) (seen : List ℕ) → seen ≡ zeros (length seen) → Marked key 0 seen
-marked_none key seen b =
-    record {
-      hit = λ k ne. absurd (ne (ap (λ s. at s k) b ∙ same_replicate (length seen) 0 k));
-      kept = λ j l. absurd (not-suc-le-zero l);
-      apart = λ j k l. absurd (not-suc-le-zero l);
-    }
-
 last_or : (j i : ℕ) → j < i + 1 → (j ≡ i) ⊎ (j < i)
 last_or j i h = eq-or-lt_of_le (omega arith)
 
+-- a key whose mark is 0 is passed, and its mark set
 module _ (key : ℕ → ℕ) (i : ℕ) (seen : List ℕ) (m : Marked key i seen) (h : key i < length seen) (z : at seen (key i) ≡ 0) where
   -- a key passed before is another
   other : (j : ℕ) → j < i → key j ≢ key i

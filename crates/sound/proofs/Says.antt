@@ -1,7 +1,7 @@
 -- A test's answer, carried from one proposition to another.
 use Prim.Native.Nat.{ℕ}
 use mathlib.Core.Path.{◌≡◌, refl, sym, ◌∙◌}
-use mathlib.Core.Bool.{Bool, true, false, not, true≢false, false≢true}
+use mathlib.Core.Bool.{Bool, true, false}
 use lib.Dec.{eqb}
 use borrow.Author.Tests.{eqb-true, eqb-false}
 use Rattle.model.proofs.Official.{Says}
@@ -10,15 +10,6 @@ use Rattle.model.proofs.Official.{Says}
 pub says_iff : {P Q : Type 0} (r : Bool) → (P → Q) → (Q → P) → Says r P → Says r Q
 says_iff true f g h = f h
 says_iff false f g h = λ q. h (g q)
-
--- after `if !test { return false; }`: in the arm the test said no, and behind it yes
-pub refused : {P : Type 0} (r : Bool) → not r ≡ true → Says r P → P → ⊥
-refused true e h = absurd (false≢true e)
-refused false e h = h
-
-pub accepted : {P : Type 0} (r : Bool) → not r ≡ false → Says r P → P
-accepted true e h = h
-accepted false e h = absurd (true≢false e)
 
 -- what says P is the test that passes exactly where P holds
 pub says_test : {P : Type 0} (r b : Bool) → (b ≡ true → P) → (P → b ≡ true) → Says r P → r ≡ b

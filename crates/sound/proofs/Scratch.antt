@@ -5,16 +5,12 @@ use mathlib.Core.Path.{◌≡◌, sym, ap, ◌∙◌}
 use mathlib.Core.List.{List, ◌++◌}
 use lib.ListN.{length, take, drop, length-replicate, replicate-append-replicate, take-append-drop}
 use lib.Seq.{take_at, drop_at, take_all}
-use borrow.Rule.Slice.PartMut.{put_mid, put_same}
 use Rattle.model.specs.Lists.{zeros}
 use Rattle.model.specs.Tables.{region}
 
 module _ (s : List ℕ) (k : ℕ) (e : s ≡ zeros k) where
   pub clean-length : length s ≡ k
   clean-length = ap length e ∙ length-replicate k 0
-
-  pub clean-zeros : s ≡ zeros (length s)
-  clean-zeros = e ∙ ap zeros (sym clean-length)
 
 module _ (n p : ℕ) (s : List ℕ) (e : s ≡ zeros (n + p)) where
   split : s ≡ zeros n ++ zeros p
@@ -31,9 +27,6 @@ module _ (n p : ℕ) (s : List ℕ) (e : s ≡ zeros (n + p)) where
   -- a part that has come back as it was
   pub front_back : (part : List ℕ) → part ≡ take n s → part ++ drop n s ≡ zeros (n + p)
   front_back part q = ap (λ l. l ++ drop n s) q ∙ take-append-drop n s ∙ e
-
-  pub rest_back : (part : List ℕ) → part ≡ region n (length s - n) s → put_mid n (length s - n) s part ≡ zeros (n + p)
-  rest_back part q = ap (put_mid n (length s - n) s) q ∙ put_same n (length s - n) s ∙ e
 
 -- marks set among the first k of clean ones, and cleared
 pub cleared : (s m : List ℕ) (k : ℕ) → s ≡ zeros (length s) → k ≤ length s → drop k m ≡ drop k s → zeros k ++ drop k m ≡ s

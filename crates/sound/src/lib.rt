@@ -1,4 +1,6 @@
 // The tests that the public entries begin with: of the geometry, of the tables, of the scratch.
+#![tactic(auto)]
+
 ghost use Rattle.std.specs.Prelude.{◌≡◌, List, ◌++◌, ℕ, ◌+◌, ◌≤◌, ◌<◌, ◌^◌, length, drop};
 ghost use Rattle.model.specs.Lists.{blank, zeros, total};
 ghost use Rattle.model.specs.Numbers.{Good, good?};
