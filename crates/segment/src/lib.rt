@@ -1,4 +1,6 @@
 // "one segment's record, lent alone, is reset where it stands": free and valid count. Use marks, list and flag are the collection's.
+#![tactic(auto)]
+
 ghost use Rattle.std.specs.Prelude.{◌≡◌};
 ghost use Rattle.segment.specs.Reset.{reset};
 
