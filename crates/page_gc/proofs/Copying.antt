@@ -1,5 +1,5 @@
 -- The drain's loop, by what the inner write ensures: the definition from the start ends as the definition from here.
-use Prim.Native.Nat.{ℕ, zero, suc, ◌+◌, ◌*◌, ◌-◌, ◌<◌, ◌≤◌}
+use Prim.Native.Nat.{ℕ, suc, ◌<◌}
 use native.Mathlib.Omega.{arith}
 use mathlib.Core.Path.{◌≡◌, refl, sym, ap, subst, ◌∙◌}
 use mathlib.Core.Logic.{◌≢◌}
@@ -10,11 +10,11 @@ use Rattle.model.specs.declared.Answer.{Answer}
 use Rattle.model.specs.declared.Answer.TheVariants.{Moved, Refused}
 use Rattle.model.specs.declared.Cause.{Cause}
 use Rattle.model.specs.Lists.{zeros}
-use Rattle.model.specs.Numbers.{empty, seg_of}
-use Rattle.model.specs.Tables.{Tables, at, word_of, view}
+use Rattle.model.specs.Numbers.{empty}
+use Rattle.model.specs.Tables.{Tables, at, view}
 use Rattle.model.specs.Sound.{Mapped}
-use Rattle.model.specs.Device.{State, state, flash, Out, finish}
-use Rattle.model.specs.Contract.{Held, Fit, Ready, Done}
+use Rattle.model.specs.Device.{State, state, flash}
+use Rattle.model.specs.Contract.{Held, Ready, Done}
 use Rattle.model.specs.PageWrite.{write_page}
 use Rattle.model.specs.PageGc.{of_copy, copy_answer, last_of, drain}
 use Rattle.model.proofs.Working.{Counted}

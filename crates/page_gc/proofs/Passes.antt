@@ -1,13 +1,13 @@
 -- A pass, and the list's loop, by what their parts ensure.
-use Prim.Native.Nat.{ℕ, zero, suc, ◌+◌, ◌*◌, ◌-◌, ◌<◌, ◌≤◌}
+use Prim.Native.Nat.{ℕ, suc, ◌+◌, ◌-◌, ◌<◌, ◌≤◌}
 use native.Mathlib.Nat.{sub-zero}
 use native.Mathlib.Numerals.{add-one}
 use native.Mathlib.Omega.{arith}
 use mathlib.Core.Path.{◌≡◌, refl, sym, ap, subst, ◌∙◌}
 use mathlib.Core.Bool.{Bool, true, false, cond}
 use mathlib.Core.Logic.{◌≢◌}
-use mathlib.Core.List.{List, []}
-use lib.ListN.{length, length-replicate}
+use mathlib.Core.List.{List}
+use lib.ListN.{length}
 use Rattle.model.specs.declared.Geometry.{Geometry}
 use Rattle.model.specs.declared.Answer.{Answer}
 use Rattle.model.specs.declared.Answer.TheVariants.{Moved, Refused}
@@ -15,13 +15,12 @@ use Rattle.model.specs.declared.Cause.{Cause}
 use Rattle.model.specs.declared.Cause.TheVariants.{Erase}
 use Rattle.model.specs.Lists.{zeros}
 use Rattle.model.specs.Tables.{Tables, at, view}
-use Rattle.model.specs.Device.{Flash, State, state, flash, may_erase, erased, refuse}
-use Rattle.model.specs.Contract.{Held, Fit, Ready, Done}
-use Rattle.model.specs.PageGc.{victim, taken, reset, unflag, cleared, finish_of, drain, collect, collect_more}
-use Rattle.model.proofs.Working.{Counted}
+use Rattle.model.specs.Device.{Flash, State, state, flash, may_erase, erased}
+use Rattle.model.specs.Contract.{Held, Ready, Done}
+use Rattle.model.specs.PageGc.{victim, taken, reset, unflag, drain, collect, collect_more}
 use Rattle.model.proofs.Taken.{taken_sound, victim_seg, victim_full, victim_flag}
 use Rattle.model.proofs.Collect.{Kept, collected}
-use Rattle.model.proofs.Turns.{collect_none, collect_stops, collect_ends, finish-done, finish-refused, list_stops, list_ends, list_more, list_none}
+use Rattle.model.proofs.Turns.{collect_none, collect_ends, finish-done, finish-refused, list_stops, list_ends, list_more, list_none}
 use Rattle.model.proofs.Held.{counted, held_by}
 use Rattle.device.specs.Tried.{Tried}
 

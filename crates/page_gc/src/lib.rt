@@ -1,4 +1,6 @@
 // Step 5 of document 01 and the threshold of step 6: a victim is taken, drained, erased and reset.
+#![tactic(auto)]
+
 ghost use Rattle.std.specs.Prelude.{◌≡◌, List, ℕ, ◌+◌, ◌*◌, ◌<◌, ◌≤◌, length};
 ghost use Rattle.model.specs.Lists.{zeros, total};
 ghost use Rattle.model.specs.Numbers.{Good};
