@@ -1,4 +1,6 @@
 // The sizes of all that is lent, for a geometry.
+#![tactic(auto)]
+
 ghost use Rattle.std.specs.Prelude.{◌≡◌};
 ghost use Rattle.model.specs.Numbers.{Good};
 ghost use Rattle.sizes.specs.Sizes.{size_of, sized};
