@@ -6,8 +6,7 @@ use mathlib.Core.Path.{◌≡◌, refl, sym, ap, subst, subst⁻¹, ◌∙◌}
 use mathlib.Core.Logic.{◌⊎◌, inl, inr}
 use mathlib.Core.Bool.{Bool, true, false, cond}
 use mathlib.Core.List.{List}
-use lib.Dec.{eqb}
-use lib.ListN.{length, get_or}
+use lib.ListN.{length}
 use lib.Seq.{get_or-set_same}
 use Rattle.model.specs.declared.Geometry.{Geometry}
 use Rattle.model.specs.Lists.{slot, splice, zeros}
@@ -16,12 +15,10 @@ use Rattle.model.specs.declared.Cause.TheVariants.{NoRoom, Device}
 use Rattle.model.specs.declared.Found.TheVariants.{At, Nothing}
 use Rattle.model.specs.Numbers.{empty, seg_of, page_of}
 use Rattle.model.specs.Tables.{Tables, at, word_of, view}
-use Rattle.model.specs.Sound.{Mapped}
-use Rattle.model.specs.Device.{Flash, State, state, may_program, programmed, refuse}
+use Rattle.model.specs.Device.{Flash, State, state, may_program, programmed}
 use Rattle.model.specs.Contract.{Held, Done}
 use Rattle.model.specs.PageMap.{find, spend, forget, place}
-use Rattle.model.specs.PageWrite.{old_page, stored, spent, write_page}
-use Rattle.model.proofs.Working.{Counted}
+use Rattle.model.specs.PageWrite.{old_page, write_page}
 use Rattle.model.proofs.Find.{Full, Free, found}
 use Rattle.model.proofs.Spend.{Next}
 use Rattle.model.proofs.Turns.{write_none, write-stored, write-spent}

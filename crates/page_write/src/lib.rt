@@ -1,4 +1,6 @@
 // Step 4 of document 01: a page is found, built, spent and programmed; then the logical page is mapped to it.
+#![tactic(auto)]
+
 ghost use Rattle.std.specs.Prelude.{◌≡◌, List, ℕ, ◌+◌, ◌*◌, ◌<◌, ◌≤◌, length};
 ghost use Rattle.model.specs.Lists.{splice, zeros};
 ghost use Rattle.model.specs.Tables.{view, pages};
