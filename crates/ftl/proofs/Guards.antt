@@ -1,6 +1,6 @@
 -- How an entry's first tests end: the geometry's, and those of the sizes behind it.
 use Prim.Native.Nat.{ℕ}
-use mathlib.Core.Path.{◌≡◌, refl, sym, subst}
+use mathlib.Core.Path.{◌≡◌, refl, sym, ap, ◌∙◌, subst}
 use mathlib.Core.Bool.{Bool, true, false, ◌&&◌}
 use mathlib.Core.List.{List, [], ◌∷◌}
 use lib.IntN.{ℤ}
@@ -53,3 +53,7 @@ module _ (G : Geometry) (ts : List Bool) where
 pub clean_is : (k : ℕ) (s : List ℕ) → clean (k ∷ []) (s ∷ []) ≡ true → s ≡ zeros k
 unfolding clean
 clean_is k s e = clean-zeros k s (both (eqb (length s) k && blank s) true e).0
+
+-- scratch that was clean, and is zeros again, comes back
+pub handed_back : (k : ℕ) (s s' : List ℕ) → clean (k ∷ []) (s ∷ []) ≡ true → s' ≡ zeros k → ◌≡◌ {A = List (List ℕ)} (s' ∷ []) (s ∷ [])
+handed_back k s s' e z = ap (λ (m : List ℕ). m ∷ []) (z ∙ sym (clean_is k s e))

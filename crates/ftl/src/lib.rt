@@ -1,4 +1,6 @@
 // The public entries. Each tests all that it is lent, in document 01's order, and then does its deed. No entry asks anything of its caller.
+#![tactic(auto)]
+
 ghost use Rattle.std.specs.Prelude.{◌≡◌, [], ◌∷◌, ◌+◌, ◌*◌, ◌<◌, ◌≤◌, leb, length, take, drop};
 ghost use Rattle.model.specs.Lists.{every, slot, splice};
 ghost use Rattle.model.specs.Numbers.{Good, flat};
