@@ -1,3 +1,2 @@
-pub mod And
 pub mod Signed
 pub mod Rows

@@ -1,4 +1,6 @@
 // What the public entries test first, and the number of an answer.
+#![tactic(auto)]
+
 ghost use Rattle.std.specs.Prelude.{◌≡◌, ◌&&◌, [], ◌∷◌, ◌+◌, ◌*◌, ◌<◌, leb, eqb, length};
 ghost use Rattle.model.specs.Lists.{every, blank};
 ghost use Rattle.model.specs.Numbers.{Good, chosen, refusal, negated, number};
