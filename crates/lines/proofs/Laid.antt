@@ -8,7 +8,7 @@ use mathlib.Core.Bool.{true, false}
 use mathlib.Core.List.{List, [], ◌∷◌, ◌++◌, append_assoc}
 use lib.Dec.{eqb}
 use lib.ListN.{length, set, take, get_or, length-append, length-set}
-use lib.Seq.{take-suc, take-length, length-take-le}
+use lib.Seq.{take-suc, length-take-le}
 use Rattle.model.specs.Lists.{splice}
 use Rattle.checkpoint.proofs.Lay.{lay_none, lay_length, lay_next, lay_store}
 use Rattle.model.specs.declared.Geometry.{Geometry}
@@ -66,7 +66,7 @@ hex_more : (bs : List ℕ) (i : ℕ) → i < length bs → hex (take (i + 1) bs)
 unfolding hex
 hex_more bs i h = ap hex (ap (λ k. take k bs) (add-one i) ∙ take-suc bs i 0 h) ∙ hex-append (take i bs) (get_or bs i 0 ∷ [])
 
--- `put_hex`: before its loop, one turn, its end
+-- `put_hex`: before its loop, and one turn
 pub hex_none : (d bs : List ℕ) (at : ℕ) → d ≡ splice at (hex (take 0 bs)) d
 unfolding hex
 hex_none d bs at = sym (lay_none d at)
@@ -82,9 +82,6 @@ module _ (d bs : List ℕ) (at i : ℕ) {x : List ℕ} (e : x ≡ splice at (hex
       let one = lay_store d done at (at + 2 * i) high e (omega arith) (omega arith) in
       lay_store d (done ++ (high ∷ [])) at (at + 2 * i + 1) low one (simp length-append (omega arith)) (omega arith)
       ∙ ap (λ t. splice at t d) (append_assoc done (high ∷ []) (low ∷ []) ∙ sym (hex_more bs i h))
-
-  pub hex_end : i ≡ length bs → x ≡ splice at (hex bs) d
-  hex_end h = e ∙ ap (λ t. splice at (hex t) d) (ap (λ j. take j bs) h ∙ take-length bs)
 
 -- a number's one digit, and the last of several
 pub digit_alone : (d : List ℕ) (at n : ℕ) → n < 10 → at < length d → set d at (48 + n) ≡ splice at (decimal n) d

@@ -88,15 +88,11 @@ pub counted : (r : ℤ) → SFits w64 r → lt_z (held r) (pos 0) ≡ false → 
 counted (pos n) f t = subst (λ z. T (non_neg z) × Fits w64 (nat_abs z)) (sym (to_z_pos w64 n f.sfits)) (tt, record { fits = omega (arith, f.sfits) })
 counted (negsuc k) f t = absurd (not_above k f t)
 
--- the text by the sign, where x is the number without it; and the text's length
+-- the text of a number below 0, where x is the number without its sign; and the length of any text
 module _ (x : ℕ) where
   pub refused : (r : ℤ) → SFits w64 r → lt_z (held r) (pos 0) ≡ true → x ≡ nat_abs (held r) → answer_text r ≡ 33 ∷ decimal x
   refused (pos n) f t e = absurd (not_below n f t)
   refused (negsuc k) f t e = ap (λ n. 33 ∷ decimal n) (add-one k ∙ sym (e ∙ ap nat_abs (to_z-of_z w64 (negsuc k) f)))
-
-  pub moved : (r : ℤ) → SFits w64 r → lt_z (held r) (pos 0) ≡ false → x ≡ nat_abs (held r) → answer_text r ≡ decimal x
-  moved (pos n) f t e = ap decimal (sym (e ∙ ap nat_abs (to_z-of_z w64 (pos n) f)))
-  moved (negsuc k) f t e = absurd (not_above k f t)
 
 pub text_length : (r : ℤ) → SFits w64 r → length (answer_text r) ≤ 21
 text_length (pos n) f = omega (arith, twenty n (omega (arith, f.sfits)))

@@ -1,4 +1,6 @@
 // The lines of a trace, laid into a buffer that the caller lends. What is laid ends at the place that is answered.
+#![tactic(auto)]
+
 ghost use Rattle.std.specs.Prelude.{◌≡◌, ◌+◌, ◌*◌, ◌<◌, ◌≤◌, nat_abs, length};
 ghost use Rattle.model.specs.Lists.{splice};
 ghost use Rattle.model.specs.Numbers.{Good};
