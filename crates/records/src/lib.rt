@@ -1,4 +1,6 @@
 // The header and the records of a trace, read from bytes that may be anything.
+#![tactic(auto)]
+
 ghost use Rattle.std.specs.Prelude.{◌≡◌, true, set};
 ghost use Rattle.records.specs.Trace.{marking, header, write_record, read_record, list_record, record_of, next_record, small?, valued};
 
