@@ -1,5 +1,7 @@
 // The inner write, the inner collection and the soundness test under C names, for the bench alone. They ask of their callers what those ask, and
 // test nothing: they are no part of the library.
+#![tactic(auto)]
+
 ghost use Rattle.std.specs.Prelude.{◌≡◌, ◌+◌, ◌/◌, ◌%◌, ◌<◌, ◌≤◌, length};
 ghost use Rattle.model.specs.Lists.{zeros};
 ghost use Rattle.model.specs.Numbers.{Good, geometry};
