@@ -7,7 +7,7 @@ use mathlib.Core.Path.{◌≡◌, refl, sym, ap, ap₂, ◌∙◌}
 use mathlib.Core.Bool.{true, false}
 use mathlib.Core.List.{List, [], ◌∷◌, ◌++◌, append_assoc, append-nil}
 use lib.ListN.{length, take, drop, set, replicate, length-append, length-take, length-drop, length-replicate, replicate-append-replicate, take-append-drop, drop_of_length-le}
-use lib.Seq.{take_at, drop_at, take-suc, take-length, drop-drop, drop-append-add, set_split, sets-eq, length-take-le}
+use lib.Seq.{take_at, drop_at, take-suc, drop-drop, drop-append-add, set_split, sets-eq, length-take-le}
 use borrow.Author.Tests.{le-leb, lt-leb}
 use Rattle.model.specs.Lists.{splice, up_to}
 use Rattle.model.specs.Tables.{at}
@@ -100,9 +100,6 @@ module _ (d ws : List ℕ) (k i : ℕ) {x : List ℕ} (e : x ≡ splice k (words
       let q : length (words (take i ws)) ≡ 4 * i = length-words (take i ws) ∙ ap (λ j. 4 * j) (length-take-le i ws (omega arith)) in
       lay_next d (words (take i ws)) (word (at ws i)) k (k + 4 * i) e l (ap (λ j. k + j) q) ∙ ap (λ r. splice k r d) (words_more ws i h)
 
-  pub put_end : i ≡ length ws → x ≡ splice k (words ws) d
-  put_end h = e ∙ ap (λ r. splice k (words r) d) (ap (λ j. take j ws) h ∙ take-length ws)
-
 -- words read in two parts
 pub words_split : (m n : ℕ) (s : List ℕ) (i : ℕ) → words_at (m + n) s i ≡ words_at m s i ++ words_at n s (i + 4 * m)
 unfolding words_at
@@ -153,6 +150,3 @@ module _ (p k : ℕ) (s : List ℕ) (j i : ℕ) where
   up_end h =
       let e : k - i ≡ 0 = omega arith in
       rw e
-
-pub up_start : (p k : ℕ) (s : List ℕ) (j : ℕ) → up_to p (words_at k s j) ≡ up_to p (words_at (k - 0) s (j + 4 * 0))
-up_start p k s j = ap₂ (λ m b. up_to p (words_at m s b)) (omega arith) (omega arith)

@@ -264,11 +264,6 @@ module _ (G : Geometry) (K : Good G) (M F : List ℕ) (a : ℕ) (lm : length M �
 abbrev pub Walked : Geometry → ℕ → (t₀ t : Tables) → List ℕ → Type 0
 Walked G left t₀ t s = (Turn G (G.e - left) t s) × (ending G (G.e - left) t ≡ ending G 0 t₀)
 
-pub walk_start : (G : Geometry) (t : Tables) (s : List ℕ) → Turn G 0 t s → Walked G G.e t t s
-walk_start G t s T =
-    let z : 0 ≡ G.e - G.e = omega arith in
-    (subst (λ (l : ℕ). Turn G l t s) z T, ap (λ l. ending G l t) (sym z))
-
 pub walk_more : (G : Geometry) (left : ℕ) (t₀ t t' : Tables) (s s' : List ℕ) → left ≤ G.e → 0 < left
     → Walked G left t₀ t s → Onward G (G.e - left) t t' s' → Walked G (left - 1) t₀ t' s'
 walk_more G left t₀ t t' s s' h l W O =

@@ -1,6 +1,5 @@
 -- `fill_marks` meets its contract.
-use Rattle.std.proofs.Common.{◌≡◌, sym, ap, ◌∙◌, replicate, arith}
-use Rattle.model.specs.Lists.{splice}
+use Rattle.std.proofs.Common.{sym, arith}
 use Rattle.checkpoint.proofs.Lay.{lay_none, fill_more}
 use Rattle.checkpoint.proofs.fill_marks.Goals as goal
 
@@ -12,8 +11,3 @@ loop-i-preserved c = record {
   in_range = omega arith;
   laid = fill_more c.args.d.now c.args.at c.loop-i.i c.args.x c.loop-i.invariant.laid (omega arith);
 }
-
-pub returns : goal.returns
-returns c =
-    let q : c.loop-i.i ≡ c.args.k = omega arith in
-    c.loop-i.invariant.laid ∙ ap (λ j. splice c.args.at (replicate j c.args.x) c.args.d.now) q

@@ -1,8 +1,6 @@
 -- `get_words` meets its contract: the words passed are laid in.
-use Rattle.std.proofs.Common.{◌≡◌, ap, ◌∙◌, arith}
+use Rattle.std.proofs.Common.{ap, ◌∙◌, arith}
 use lib.ListN.{set}
-use Rattle.model.specs.Lists.{splice}
-use Rattle.model.specs.Checkpoint.{words_at}
 use Rattle.checkpoint.proofs.Lay.{get_none, get_more}
 use Rattle.checkpoint.proofs.get_words.Goals as goal
 
@@ -16,8 +14,3 @@ loop-i-preserved c = record {
       ap (λ x. set c.loop-i.d c.loop-i.i x) c.get_word.ensures
       ∙ get_more c.args.d.now c.args.s.now c.args.at c.loop-i.i c.loop-i.invariant.laid (omega arith);
 }
-
-pub returns : goal.returns
-returns c =
-    let q : c.loop-i.i ≡ c.args.k = omega arith in
-    c.loop-i.invariant.laid ∙ ap (λ j. splice 0 (words_at j c.args.s.now c.args.at) c.args.d.now) q

@@ -1,16 +1,8 @@
 -- `settle_all` meets its contract: before each turn, what is left of the definition's walk gives the whole.
 use Rattle.std.proofs.Common.{arith}
 use Rattle.model.specs.Tables.{view}
-use Rattle.checkpoint.proofs.Turning.{walk_start, walk_more, walk_end}
+use Rattle.checkpoint.proofs.Turning.{walk_more, walk_end}
 use Rattle.checkpoint.proofs.settle_all.Goals as goal
-
-pub loop-left-init : goal.loop-left-init
-loop-left-init c = record { in_range = omega arith; walked = λ u. walk_start c.args.geo (view c.args.geo c.args.tab.now u) c.args.taken.now }
-
-pub settle-requires-clause-tab_len : goal.settle-requires-clause-tab_len
-settle-requires-clause-tab_len c =
-    let r = c.requires.tab_len in
-    (omega (arith, r.0), omega arith, (r.1.0, (c.loop-left.invariant.walked r.1.0 r.1.1).0))
 
 pub loop-left-preserved : goal.loop-left-preserved
 loop-left-preserved c =

@@ -1,10 +1,7 @@
 -- `up_to` meets its contract: what is left of the words decides.
 use Rattle.std.proofs.Common.{sym, ◌∙◌, arith}
-use Rattle.checkpoint.proofs.Lay.{up_start, up_more, up_fails, up_end}
+use Rattle.checkpoint.proofs.Lay.{up_more, up_fails, up_end}
 use Rattle.checkpoint.proofs.up_to.Goals as goal
-
-pub loop-i-init : goal.loop-i-init
-loop-i-init c = record { in_range = omega arith; left = up_start c.args.p c.args.k c.args.s.now c.args.at }
 
 pub returns-then-p-x : goal.returns-then-p-x
 returns-then-p-x c =
