@@ -1,4 +1,6 @@
 // Replays stored cases on the public entries, and compares each answer, and a CRC-32 over all that is lent, with the oracle's.
+#![tactic(auto)]
+
 ghost use Rattle.std.specs.Prelude.{◌≡◌, ◌≤◌, length};
 ghost use Rattle.crc32.specs.Crc32.{crc32, after};
 ghost use Rattle.model.specs.Checkpoint.{long, words};
@@ -6,6 +8,8 @@ ghost use Rattle.replay.specs.Lent.{everything};
 
 use model::{Geometry, Numbers, Queueing};
 use numbers::Reading;
+use std::io;
+use std::io::{Read, Write};
 use std::num::wrapping_add_u64;
 
 // A fuse without end.
@@ -35,7 +39,7 @@ enum Place {
 }
 
 // A step's number, and the numbers behind it: for a call its two arguments, whether it is refused, the answer without sign, the CRC.
-#[derive(Drop)]
+#[derive(Clone, Copy)]
 struct Step {
     op: usize,
     a: usize,
@@ -69,7 +73,7 @@ enum Played {
 }
 
 // What a call answers, and the CRC of all that is lent after it.
-#[derive(Drop)]
+#[derive(Clone, Copy)]
 struct Found {
     answer: i64,
     crc: u32,
@@ -82,12 +86,13 @@ struct Tally {
     differences: u64,
 }
 
-fn say(text: &[u8]) {
-    io::write_all(1, text);
+// What can't be written is passed over.
+fn say(rt: &impl Print, text: &[u8]) {
+    let _ = io::writer(rt).write_all(text);
 }
 
-fn say_number(x: u64) {
-    io::print_decimal(1, x);
+fn say_number(rt: &impl Print, x: u64) {
+    let _ = print!(rt; "{x}");
 }
 
 fn least(a: usize, b: usize) -> usize
@@ -382,28 +387,28 @@ fn refused(r: i64) -> usize {
     0
 }
 
-fn say_answer(sign: usize, x: u64) {
+fn say_answer(rt: &impl Print, sign: usize, x: u64) {
     if sign != 0 {
-        say(b"-");
+        say(rt, b"-");
     }
-    say_number(x);
+    say_number(rt, x);
 }
 
 // The line of a difference.
-fn tell(case: u64, call: u64, step: Step, found: Found) {
-    say(b"case ");
-    say_number(case);
-    say(b", call ");
-    say_number(call);
-    say(b": expected ");
-    say_answer(step.c, step.d as u64);
-    say(b" and ");
-    say_number(step.e as u64);
-    say(b", found ");
-    say_answer(refused(found.answer), magnitude(found.answer));
-    say(b" and ");
-    say_number(found.crc as u64);
-    say(b"\n");
+fn tell(rt: &impl Print, case: u64, call: u64, step: Step, found: Found) {
+    say(rt, b"case ");
+    say_number(rt, case);
+    say(rt, b", call ");
+    say_number(rt, call);
+    say(rt, b": expected ");
+    say_answer(rt, step.c, step.d as u64);
+    say(rt, b" and ");
+    say_number(rt, step.e as u64);
+    say(rt, b", found ");
+    say_answer(rt, refused(found.answer), magnitude(found.answer));
+    say(rt, b" and ");
+    say_number(rt, found.crc as u64);
+    say(rt, b"\n");
 }
 
 fn agrees(step: Step, found: Found) -> bool {
@@ -417,11 +422,11 @@ fn agrees(step: Step, found: Found) -> bool {
 }
 
 // A call's answer and CRC are the stored ones, or there is a difference to tell.
-fn judge(case: u64, call: u64, step: Step, found: Found, next: usize) -> Told {
+fn judge(rt: &impl Print, case: u64, call: u64, step: Step, found: Found, next: usize) -> Told {
     if agrees(step, found) {
         return Told::On(next, 1);
     }
-    tell(case, call, step, found);
+    tell(rt, case, call, step, found);
     Told::Differs(next)
 }
 
@@ -589,6 +594,7 @@ fn poke(
 
 // The step at a place.
 fn turn(
+    rt: &impl Print,
     case: u64,
     calls: u64,
     geo: Geometry,
@@ -631,7 +637,7 @@ fn turn(
         geo, step, lens, tab, used, bytes, marks, counts, fuse, bad, buffer, page, seen, order,
         taken,
     );
-    judge(case, calls, step, found, next)
+    judge(rt, case, calls, step, found, next)
 }
 
 // A case that differs is passed.
@@ -643,7 +649,7 @@ fn passed(xs: &[u8], at: usize, calls: u64) -> Played {
 }
 
 // The steps of a case from zeroed memory.
-fn play(case: u64, geo: Geometry, xs: &[u8], first: usize) -> Played {
+fn play(rt: &impl Print, case: u64, geo: Geometry, xs: &[u8], first: usize) -> Played {
     let mut lens = [0usize; 11];
     let mut tab = [0u32; 2048];
     let mut used = [0u8; 512];
@@ -663,6 +669,7 @@ fn play(case: u64, geo: Geometry, xs: &[u8], first: usize) -> Played {
     while 0 < left {
         left -= 1;
         let told = turn(
+            rt,
             case,
             wrapping_add_u64(calls, 1),
             geo,
@@ -696,7 +703,7 @@ fn play(case: u64, geo: Geometry, xs: &[u8], first: usize) -> Played {
 }
 
 // A case: its geometry, and then its steps.
-fn play_case(case: u64, xs: &[u8], at: usize) -> Played {
+fn play_case(rt: &impl Print, case: u64, xs: &[u8], at: usize) -> Played {
     let mut row = [0usize; 6];
     let Place::At(first) = read_row(xs, at, 6, &mut row) else {
         return Played::Malformed;
@@ -709,17 +716,17 @@ fn play_case(case: u64, xs: &[u8], at: usize) -> Played {
         e: row[4],
         limit: row[5],
     };
-    play(case, geo, xs, first)
+    play(rt, case, geo, xs, first)
 }
 
-fn tell_malformed(case: u64) {
-    say(b"malformed in case ");
-    say_number(case);
-    say(b"\n");
+fn tell_malformed(rt: &impl Print, case: u64) {
+    say(rt, b"malformed in case ");
+    say_number(rt, case);
+    say(rt, b"\n");
 }
 
 // Every case of the file.
-fn play_all(xs: &[u8]) -> Tally {
+fn play_all(rt: &impl Print, xs: &[u8]) -> Tally {
     let mut cases = 0u64;
     let mut calls = 0u64;
     let mut differences = 0u64;
@@ -735,8 +742,8 @@ fn play_all(xs: &[u8]) -> Tally {
             };
         }
         let case = wrapping_add_u64(cases, 1);
-        let Played::Whole(next, made, differs) = play_case(case, xs, at) else {
-            tell_malformed(case);
+        let Played::Whole(next, made, differs) = play_case(rt, case, xs, at) else {
+            tell_malformed(rt, case);
             return Tally {
                 cases,
                 calls,
@@ -755,18 +762,34 @@ fn play_all(xs: &[u8]) -> Tally {
     }
 }
 
-fn main() {
+// Reads until the buffer is full, the input ends or a read fails, and answers how many bytes stand at its front.
+fn read_full(rt: &impl Input, buffer: &mut [u8]) -> usize
+    ensures { result ≤ length buffer.new }
+{
+    let mut reader = rt.reader();
+    let mut done = 0;
+    while done < buffer.len() {
+        let n = reader.read(&mut buffer[done..]).unwrap_or(0);
+        if n == 0 {
+            break;
+        }
+        done += n;
+    }
+    done
+}
+
+fn main(rt: HostRuntime) {
     let mut input = [0u8; 262145];
-    let length = io::read_full(0, &mut input);
+    let length = read_full(&rt, &mut input);
     if 262144 < length {
-        say(b"too long\n");
+        say(&rt, b"too long\n");
         return;
     }
-    let t = play_all(&input[..length]);
-    say_number(t.cases);
-    say(b" cases, ");
-    say_number(t.calls);
-    say(b" calls, ");
-    say_number(t.differences);
-    say(b" differences\n");
+    let t = play_all(&rt, &input[..length]);
+    say_number(&rt, t.cases);
+    say(&rt, b" cases, ");
+    say_number(&rt, t.calls);
+    say(&rt, b" calls, ");
+    say_number(&rt, t.differences);
+    say(&rt, b" differences\n");
 }
