@@ -1,69 +1,17 @@
 -- What the definitions of a trace say, case by case.
-use Prim.Native.Nat.{ℕ, zero, suc, ◌+◌, ◌-◌, ◌*◌, ◌<◌, ◌≤◌}
+use Prim.Native.Nat.{ℕ, zero, suc, ◌+◌, ◌-◌, ◌<◌, ◌≤◌}
 use mathlib.Core.Path.{◌≡◌, sym, ap}
 use mathlib.Core.Logic.{◌≢◌}
-use mathlib.Core.Bool.{Bool, true, false, ◌&&◌}
+use mathlib.Core.Bool.{Bool, ◌&&◌}
 use mathlib.Core.List.{List}
 use native.Mathlib.Omega.{arith}
 use native.Mathlib.Numerals.{sub-one}
-use lib.Dec.{ltb, leb}
+use lib.Dec.{ltb}
 use lib.ListN.{length, set}
 use borrow.Author.Tests.{ne_eqb, le-leb, lt-leb}
-use Rattle.model.specs.declared.Geometry.{Geometry}
-use Rattle.model.specs.Numbers.{good?}
-use Rattle.model.specs.Tables.{pages}
-use Rattle.numbers.specs.declared.Reading.{Reading}
 use Rattle.numbers.specs.declared.Reading.TheVariants.{Number, Malformed}
 use Rattle.numbers.specs.Groups.{number}
-use Rattle.records.specs.Trace.{Ready, Values, Bads, Marked, Short, Write, Read, CollectList, Found, Bad, after, small?, valued, marking, write_record, read_record, list_record, record_of}
-
--- what comes after a reading, once the reading is known
-pub after_bad : {A : Type 0} (r : Reading) (bad : A) (f : ℕ → ℕ → A) → r ≡ Malformed → after r bad f ≡ bad
-after_bad r bad f e = rw e
-
-pub after-number
-    : {A : Type 0} (r : Reading) (bad : A) (f : ℕ → ℕ → A) {x next : ℕ}
-    → r ≡ Number x next
-    → after r bad f ≡ f x next
-after-number r bad f e = rw e
-
--- the trace's own limits, test by test
-module _ (G : Geometry) where
-  pub small_bad : good? G ≡ false → small? G ≡ false
-  small_bad e = rw e
-
-  pub small_pages : good? G ≡ true → 1024 < pages G → small? G ≡ false
-  small_pages e h = rw (e, lt-leb (pages G) 1024 h)
-
-  pub small_page : good? G ≡ true → pages G ≤ 1024 → 512 < G.s → small? G ≡ false
-  small_page e h l = rw (e, le-leb (pages G) 1024 h, lt-leb G.s 512 l)
-
-  pub small_last : good? G ≡ true → pages G ≤ 1024 → G.s ≤ 512 → small? G ≡ leb (pages G * G.s) 32768
-  small_last e h l = rw (e, le-leb (pages G) 1024 h, le-leb G.s 512 l)
-
--- the values of a header
-pub valued-ready
-    : (G : Geometry) {bads : Bads} {next : ℕ} {inside : Bool}
-    → bads ≡ Marked next inside
-    → inside ≡ true
-    → small? G ≡ true
-    → valued G bads ≡ Ready G next
-valued-ready G e i s = rw (e, i, s)
-
-pub valued-outside
-    : (G : Geometry) {bads : Bads} {next : ℕ} {inside : Bool}
-    → bads ≡ Marked next inside
-    → inside ≡ false
-    → valued G bads ≡ Values
-valued-outside G e i = rw (e, i)
-
-pub valued-large
-    : (G : Geometry) {bads : Bads} {next : ℕ} {inside : Bool}
-    → bads ≡ Marked next inside
-    → inside ≡ true
-    → small? G ≡ false
-    → valued G bads ≡ Values
-valued-large G e i s = rw (e, i, s)
+use Rattle.records.specs.Trace.{Marked, Short, Write, Read, CollectList, Found, Bad, marking, write_record, read_record, list_record, record_of}
 
 -- a record that lacks its first number, and one that has no other
 module _ (xs : List ℕ) (at : ℕ) where

@@ -23,7 +23,7 @@ pub enum Bads {
 }
 
 // A record; a write's bytes stand in the trace, at the place that is its third number.
-#[derive(Drop)]
+#[derive(Clone, Copy)]
 pub enum Record {
     Write(usize, usize, usize),
     Read(usize, usize),
