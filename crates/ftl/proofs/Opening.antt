@@ -12,7 +12,7 @@ use Rattle.model.specs.declared.Cause.TheVariants.{Wrong}
 use Rattle.model.specs.declared.Answer.TheVariants.{Refused}
 use Rattle.model.specs.Numbers.{good?, number}
 use Rattle.model.specs.Tables.{Tables, tab_words, view, packed}
-use Rattle.model.specs.Device.{Flash, flash, format_from}
+use Rattle.model.specs.Device.{Flash, format_from}
 use Rattle.model.specs.Checkpoint.{opened}
 use Rattle.model.specs.Entry.{Lent, lent, recorder, Promise, tables_of, state_of, tables_fit, flash_fits, formatting, opening}
 use Rattle.model.proofs.View.{packed-view, used_is}

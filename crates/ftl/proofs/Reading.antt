@@ -1,7 +1,6 @@
 -- Reading, way by way, and the page that it shows.
 use Prim.Native.Nat.{ℕ, ◌+◌, ◌*◌, ◌-◌, ◌<◌, ◌≤◌}
 use native.Mathlib.Omega.{arith}
-use native.Mathlib.Nat.{mul-le-mul}
 use mathlib.Core.Path.{◌≡◌, refl, sym, ap, ◌∙◌}
 use mathlib.Core.Logic.{◌≢◌}
 use mathlib.Core.Bool.{Bool, true, false, not}
@@ -15,7 +14,7 @@ use Rattle.model.specs.declared.Numbers.TheVariants.{Old}
 use Rattle.model.specs.declared.Cause.TheVariants.{Wrong, Unsound, Unmapped}
 use Rattle.model.specs.declared.Answer.TheVariants.{Refused}
 use Rattle.model.specs.Lists.{every, slot, splice}
-use Rattle.model.specs.Numbers.{Good, good?, empty, flat, logical_page, offset, number}
+use Rattle.model.specs.Numbers.{good?, empty, flat, logical_page, offset, number}
 use Rattle.model.specs.Tables.{word_of, pages}
 use Rattle.model.specs.Sound.{soundb}
 use Rattle.model.specs.Entry.{Lent, lent, Promise, tables_of, tables_fit, clean, seen_scratch, read}
@@ -24,7 +23,6 @@ use Rattle.model.proofs.Slots.{part_fits}
 use Rattle.model.proofs.Regions.{region-region}
 use Rattle.model.proofs.View.{sized-view}
 use Rattle.model.proofs.Official.{soundb_counted}
-use Rattle.model.proofs.Held.{slots}
 use Rattle.model.proofs.Refusals.{guarded_sound, guarded_page, guarded_overrun}
 use Rattle.model.proofs.Guard.{each, tables_test, guarded_passes, unless_passes}
 use Rattle.ftl.proofs.Guards.{by, all_sizes, bad_geometry, bad_size, unless_fails}
@@ -38,9 +36,6 @@ module _ (G : Geometry) (f off len : ℕ) (h : off + len ≤ G.s) where
   shown_is xs =
       let e : f * G.s + off + len - (f * G.s + off) ≡ len = omega arith in
       ap (λ m. take m (drop (f * G.s + off) xs)) e ∙ sym (region-region (f * G.s) G.s off len xs h)
-
-pub bytes_small : (G : Geometry) → Good G → pages G * G.s ≤ 1099494850560
-bytes_small G K = mul-le-mul (slots K) K.s≤
 
 module _ (G : Geometry) (sector len : ℕ) (x : Lent) where
   -- what reading tests beside the geometry

@@ -1,8 +1,6 @@
 -- `collect` meets its contract: each test that fails, then the collection.
-use Rattle.std.proofs.Common.{[], sym, ◌∙◌, subst, w64, to_z, of_z}
-use Rattle.model.specs.Device.{flash, state}
-use Rattle.model.specs.Tables.{view}
-use Rattle.model.specs.PageGc.{collect}
+use Rattle.std.proofs.Common.{sym, subst}
+use Rattle.model.specs.Device.{flash}
 use Rattle.model.specs.Entry.{recorder, collection}
 use Rattle.model.proofs.Guard.{good_test}
 use Rattle.guard.proofs.Rows.{told}
@@ -30,73 +28,51 @@ returns-then-not-clean_words c =
     wrong_order _ _ _ _ _ _ _ (told c.good.ensures c.if-not-good.false) (told c.all_fit.ensures c.if-not-all_fit.false)
     (told c.clean_words.ensures c.if-not-clean_words.true)
 
-pub sound-requires-clause-good : goal.sound-requires-clause-good
-sound-requires-clause-good c = good_test _ (told c.good.ensures c.if-not-good.false)
-
-pub sound-requires-clause-tab_len : goal.sound-requires-clause-tab_len
-sound-requires-clause-tab_len c =
+pub sound-requires : goal.sound-requires
+sound-requires c =
     let a = c.args in
     let x = recorder a.tab.now a.used.now (flash a.bytes.now a.marks.now a.counts.now a.fuse.now) in
-    let P = tested a.geo a.bad.now x a.page.now a.seen.now a.order.now
-    (told c.good.ensures c.if-not-good.false) (told c.all_fit.ensures c.if-not-all_fit.false) (told c.clean_words.ensures c.if-not-clean_words.false) in
-    (P.passed.words_size, P.passed.used_size, P.passed.seen_clean)
+    let P =
+    tested a.geo a.bad.now x a.page.now a.seen.now a.order.now (told c.good.ensures c.if-not-good.false)
+    (told c.all_fit.ensures c.if-not-all_fit.false) (told c.clean_words.ensures c.if-not-clean_words.false) in
+    record { good = P.passed.good; tab_len = (P.passed.words_size, P.passed.used_size, P.passed.seen_clean) }
 
 pub returns-then-not-sound : goal.returns-then-not-sound
 unfolding collection
 returns-then-not-sound c =
-    let a = c.args in
-    let x = recorder a.tab.now a.used.now (flash a.bytes.now a.marks.now a.counts.now a.fuse.now) in
-    let P = tested a.geo a.bad.now x a.page.now a.seen.now a.order.now
-    (told c.good.ensures c.if-not-good.false) (told c.all_fit.ensures c.if-not-all_fit.false) (told c.clean_words.ensures c.if-not-clean_words.false) in
-    unsound _ _ x _ _ _ _ P (told c.sound.ensures.value c.if-not-sound.true) _ c.sound.ensures.seen_after
+    unsound _ _ _ _ _ _ _
+    (tested _ _ _ _ _ _ (told c.good.ensures c.if-not-good.false) (told c.all_fit.ensures c.if-not-all_fit.false)
+    (told c.clean_words.ensures c.if-not-clean_words.false))
+    (told c.sound.ensures.value c.if-not-sound.true) _ c.sound.ensures.seen_after
 
-pub collect-a-requires-clause-held_2 : goal.collect-a-requires-clause-held_2
-collect-a-requires-clause-held_2 c =
+pub collect-a-requires : goal.collect-a-requires
+collect-a-requires c =
     let a = c.args in
     let x = recorder a.tab.now a.used.now (flash a.bytes.now a.marks.now a.counts.now a.fuse.now) in
-    let P = tested a.geo a.bad.now x a.page.now a.seen.now a.order.now
-    (told c.good.ensures c.if-not-good.false) (told c.all_fit.ensures c.if-not-all_fit.false) (told c.clean_words.ensures c.if-not-clean_words.false) in
-    held a.geo a.bad.now x a.page.now a.seen.now P.passed (told c.sound.ensures.value c.if-not-sound.false)
-
-pub collect-a-requires-clause-ready_2 : goal.collect-a-requires-clause-ready_2
-collect-a-requires-clause-ready_2 c =
-    let a = c.args in
-    let x = recorder a.tab.now a.used.now (flash a.bytes.now a.marks.now a.counts.now a.fuse.now) in
-    let P = tested a.geo a.bad.now x a.page.now a.seen.now a.order.now
-    (told c.good.ensures c.if-not-good.false) (told c.all_fit.ensures c.if-not-all_fit.false) (told c.clean_words.ensures c.if-not-clean_words.false) in
-    P.passed.ready
-
-pub collect-a-requires-clause-counts_len : goal.collect-a-requires-clause-counts_len
-collect-a-requires-clause-counts_len c =
-    let a = c.args in
-    let x = recorder a.tab.now a.used.now (flash a.bytes.now a.marks.now a.counts.now a.fuse.now) in
-    let P = tested a.geo a.bad.now x a.page.now a.seen.now a.order.now
-    (told c.good.ensures c.if-not-good.false) (told c.all_fit.ensures c.if-not-all_fit.false) (told c.clean_words.ensures c.if-not-clean_words.false) in
-    (P.passed.fit.counts, P.order_clean)
+    let P =
+    tested a.geo a.bad.now x a.page.now a.seen.now a.order.now (told c.good.ensures c.if-not-good.false)
+    (told c.all_fit.ensures c.if-not-all_fit.false) (told c.clean_words.ensures c.if-not-clean_words.false) in
+    record {
+      held_2 = held _ _ x _ a.seen.now P.passed (told c.sound.ensures.value c.if-not-sound.false);
+      ready_2 = P.passed.ready;
+      counts_len = (P.passed.fit.counts, P.order_clean);
+    }
 
 pub number-requires : goal.number-requires
 number-requires c =
-    let a = c.args in
-    let x = recorder a.tab.now a.used.now (flash a.bytes.now a.marks.now a.counts.now a.fuse.now) in
-    let P = tested a.geo a.bad.now x a.page.now a.seen.now a.order.now
-    (told c.good.ensures c.if-not-good.false) (told c.all_fit.ensures c.if-not-all_fit.false) (told c.clean_words.ensures c.if-not-clean_words.false) in
-    subst Countable (sym c.collect-a.ensures.done.answer) (collect_countable a.geo a.bad.now (state (view a.geo x.words x.used) x.flash))
+    subst Countable (sym c.collect-a.ensures.done.answer) (collect_countable _ _ _)
 
 pub returns : goal.returns
 unfolding collection
 returns c =
     let a = c.args in
     let x = recorder a.tab.now a.used.now (flash a.bytes.now a.marks.now a.counts.now a.fuse.now) in
-    let P = tested a.geo a.bad.now x a.page.now a.seen.now a.order.now
-    (told c.good.ensures c.if-not-good.false) (told c.all_fit.ensures c.if-not-all_fit.false) (told c.clean_words.ensures c.if-not-clean_words.false) in
-    let k : Countable c.collect-a.result = subst Countable (sym c.collect-a.ensures.done.answer) (collect_countable a.geo a.bad.now (state (view a.geo x.words x.used) x.flash)) in
-    done a.geo a.bad.now x a.page.now a.seen.now a.order.now _ P (told c.sound.ensures.value c.if-not-sound.false)
+    let P =
+    tested a.geo a.bad.now x a.page.now a.seen.now a.order.now (told c.good.ensures c.if-not-good.false)
+    (told c.all_fit.ensures c.if-not-all_fit.false) (told c.clean_words.ensures c.if-not-clean_words.false) in
+    let k : Countable c.collect-a.result = subst Countable (sym c.collect-a.ensures.done.answer) (collect_countable _ _ _) in
+    done _ _ x _ _ _ _ P (told c.sound.ensures.value c.if-not-sound.false)
     _ _ _ _ _ _
-    c.collect-a.auto.tab
-    c.collect-a.ensures.ready.page_clean
-    c.sound.ensures.seen_after
-    c.collect-a.ensures.clean
-    c.collect-a.result
-    c.collect-a.ensures.done
-    (to_z w64 (of_z w64 c.number.result))
-    (read_back a.numbers c.collect-a.result k c.number.result c.number.ensures)
+    c.collect-a.auto.tab c.collect-a.ensures.ready.page_clean c.sound.ensures.seen_after c.collect-a.ensures.clean
+    _ c.collect-a.ensures.done
+    _ (read_back _ _ k _ c.number.ensures)

@@ -1,7 +1,6 @@
 -- `collect_list` meets its contract: each test that fails, then the list.
-use Rattle.std.proofs.Common.{[], sym, ◌∙◌, subst, w64, to_z, of_z}
-use Rattle.model.specs.Device.{flash, state}
-use Rattle.model.specs.Tables.{view}
+use Rattle.std.proofs.Common.{sym, subst}
+use Rattle.model.specs.Device.{flash}
 use Rattle.model.specs.PageGc.{collect_list}
 use Rattle.model.specs.Entry.{recorder, list_collection}
 use Rattle.model.proofs.Guard.{good_test}
@@ -30,74 +29,60 @@ returns-then-not-clean_words c =
     wrong_order _ _ _ _ _ _ _ (told c.good.ensures c.if-not-good.false) (told c.all_fit.ensures c.if-not-all_fit.false)
     (told c.clean_words.ensures c.if-not-clean_words.true)
 
-pub sound-requires-clause-good : goal.sound-requires-clause-good
-sound-requires-clause-good c = good_test _ (told c.good.ensures c.if-not-good.false)
-
-pub sound-requires-clause-tab_len : goal.sound-requires-clause-tab_len
-sound-requires-clause-tab_len c =
+pub sound-requires : goal.sound-requires
+sound-requires c =
     let a = c.args in
     let x = recorder a.tab.now a.used.now (flash a.bytes.now a.marks.now a.counts.now a.fuse.now) in
-    let P = tested a.geo a.bad.now x a.page.now a.seen.now a.order.now
-    (told c.good.ensures c.if-not-good.false) (told c.all_fit.ensures c.if-not-all_fit.false) (told c.clean_words.ensures c.if-not-clean_words.false) in
-    (P.passed.words_size, P.passed.used_size, P.passed.seen_clean)
+    let P =
+    tested a.geo a.bad.now x a.page.now a.seen.now a.order.now (told c.good.ensures c.if-not-good.false)
+    (told c.all_fit.ensures c.if-not-all_fit.false) (told c.clean_words.ensures c.if-not-clean_words.false) in
+    record { good = P.passed.good; tab_len = (P.passed.words_size, P.passed.used_size, P.passed.seen_clean) }
 
 pub returns-then-not-sound : goal.returns-then-not-sound
 unfolding list_collection
 returns-then-not-sound c =
-    let a = c.args in
-    let x = recorder a.tab.now a.used.now (flash a.bytes.now a.marks.now a.counts.now a.fuse.now) in
-    let P = tested a.geo a.bad.now x a.page.now a.seen.now a.order.now
-    (told c.good.ensures c.if-not-good.false) (told c.all_fit.ensures c.if-not-all_fit.false) (told c.clean_words.ensures c.if-not-clean_words.false) in
-    unsound _ _ x _ _ _ _ P (told c.sound.ensures.value c.if-not-sound.true) _ c.sound.ensures.seen_after
+    unsound _ _ _ _ _ _ _
+    (tested _ _ _ _ _ _ (told c.good.ensures c.if-not-good.false) (told c.all_fit.ensures c.if-not-all_fit.false)
+    (told c.clean_words.ensures c.if-not-clean_words.false))
+    (told c.sound.ensures.value c.if-not-sound.true) _ c.sound.ensures.seen_after
 
-pub collect_list-a-requires-clause-held : goal.collect_list-a-requires-clause-held
-collect_list-a-requires-clause-held c =
+pub collect_list-a-requires : goal.collect_list-a-requires
+collect_list-a-requires c =
     let a = c.args in
     let x = recorder a.tab.now a.used.now (flash a.bytes.now a.marks.now a.counts.now a.fuse.now) in
-    let P = tested a.geo a.bad.now x a.page.now a.seen.now a.order.now
-    (told c.good.ensures c.if-not-good.false) (told c.all_fit.ensures c.if-not-all_fit.false) (told c.clean_words.ensures c.if-not-clean_words.false) in
-    held a.geo a.bad.now x a.page.now a.seen.now P.passed (told c.sound.ensures.value c.if-not-sound.false)
-
-pub collect_list-a-requires-clause-ready_2 : goal.collect_list-a-requires-clause-ready_2
-collect_list-a-requires-clause-ready_2 c =
-    let a = c.args in
-    let x = recorder a.tab.now a.used.now (flash a.bytes.now a.marks.now a.counts.now a.fuse.now) in
-    let P = tested a.geo a.bad.now x a.page.now a.seen.now a.order.now
-    (told c.good.ensures c.if-not-good.false) (told c.all_fit.ensures c.if-not-all_fit.false) (told c.clean_words.ensures c.if-not-clean_words.false) in
-    P.passed.ready
-
-pub collect_list-a-requires-clause-counts_len : goal.collect_list-a-requires-clause-counts_len
-collect_list-a-requires-clause-counts_len c =
-    let a = c.args in
-    let x = recorder a.tab.now a.used.now (flash a.bytes.now a.marks.now a.counts.now a.fuse.now) in
-    let P = tested a.geo a.bad.now x a.page.now a.seen.now a.order.now
-    (told c.good.ensures c.if-not-good.false) (told c.all_fit.ensures c.if-not-all_fit.false) (told c.clean_words.ensures c.if-not-clean_words.false) in
-    (P.passed.fit.counts, P.order_clean)
+    let P =
+    tested a.geo a.bad.now x a.page.now a.seen.now a.order.now (told c.good.ensures c.if-not-good.false)
+    (told c.all_fit.ensures c.if-not-all_fit.false) (told c.clean_words.ensures c.if-not-clean_words.false) in
+    record {
+      held = held _ _ x _ a.seen.now P.passed (told c.sound.ensures.value c.if-not-sound.false);
+      ready_2 = P.passed.ready;
+      counts_len = (P.passed.fit.counts, P.order_clean);
+    }
 
 pub number-requires : goal.number-requires
 unfolding collect_list
 number-requires c =
     let a = c.args in
     let x = recorder a.tab.now a.used.now (flash a.bytes.now a.marks.now a.counts.now a.fuse.now) in
-    let P = tested a.geo a.bad.now x a.page.now a.seen.now a.order.now
-    (told c.good.ensures c.if-not-good.false) (told c.all_fit.ensures c.if-not-all_fit.false) (told c.clean_words.ensures c.if-not-clean_words.false) in
-    subst Countable (sym c.collect_list-a.ensures.done.answer) (list_countable a.geo P.passed.good a.bad.now a.m _ (counted a.geo a.bad.now x a.page.now a.seen.now P.passed (told c.sound.ensures.value c.if-not-sound.false)) P.passed.fit)
+    let P =
+    tested a.geo a.bad.now x a.page.now a.seen.now a.order.now (told c.good.ensures c.if-not-good.false)
+    (told c.all_fit.ensures c.if-not-all_fit.false) (told c.clean_words.ensures c.if-not-clean_words.false) in
+    let S = counted a.geo a.bad.now x a.page.now a.seen.now P.passed (told c.sound.ensures.value c.if-not-sound.false) in
+    subst Countable (sym c.collect_list-a.ensures.done.answer) (list_countable a.geo P.passed.good a.bad.now a.m _ S P.passed.fit)
 
 pub returns : goal.returns
 unfolding list_collection collect_list
 returns c =
     let a = c.args in
     let x = recorder a.tab.now a.used.now (flash a.bytes.now a.marks.now a.counts.now a.fuse.now) in
-    let P = tested a.geo a.bad.now x a.page.now a.seen.now a.order.now
-    (told c.good.ensures c.if-not-good.false) (told c.all_fit.ensures c.if-not-all_fit.false) (told c.clean_words.ensures c.if-not-clean_words.false) in
-    let k : Countable c.collect_list-a.result = subst Countable (sym c.collect_list-a.ensures.done.answer) (list_countable a.geo P.passed.good a.bad.now a.m _ (counted a.geo a.bad.now x a.page.now a.seen.now P.passed (told c.sound.ensures.value c.if-not-sound.false)) P.passed.fit) in
-    done a.geo a.bad.now x a.page.now a.seen.now a.order.now _ P (told c.sound.ensures.value c.if-not-sound.false)
+    let P =
+    tested a.geo a.bad.now x a.page.now a.seen.now a.order.now (told c.good.ensures c.if-not-good.false)
+    (told c.all_fit.ensures c.if-not-all_fit.false) (told c.clean_words.ensures c.if-not-clean_words.false) in
+    let S = counted a.geo a.bad.now x a.page.now a.seen.now P.passed (told c.sound.ensures.value c.if-not-sound.false) in
+    let k : Countable c.collect_list-a.result =
+    subst Countable (sym c.collect_list-a.ensures.done.answer) (list_countable a.geo P.passed.good a.bad.now a.m _ S P.passed.fit) in
+    done _ _ x _ _ _ _ P (told c.sound.ensures.value c.if-not-sound.false)
     _ _ _ _ _ _
-    c.collect_list-a.auto.tab
-    c.collect_list-a.ensures.ready.page_clean
-    c.sound.ensures.seen_after
-    c.collect_list-a.ensures.clean
-    c.collect_list-a.result
-    c.collect_list-a.ensures.done
-    (to_z w64 (of_z w64 c.number.result))
-    (read_back a.numbers c.collect_list-a.result k c.number.result c.number.ensures)
+    c.collect_list-a.auto.tab c.collect_list-a.ensures.ready.page_clean c.sound.ensures.seen_after c.collect_list-a.ensures.clean
+    _ c.collect_list-a.ensures.done
+    _ (read_back _ _ k _ c.number.ensures)

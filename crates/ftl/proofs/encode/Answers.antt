@@ -1,14 +1,13 @@
 -- `encode` meets its contract: each test that fails, then the file.
-use Rattle.std.proofs.Common.{◌≡◌, ◌<◌, [], ◌∷◌, true, ap, pos, ◌∙◌, arith}
+use Rattle.std.proofs.Common.{◌<◌, [], ap, pos, ◌∙◌, arith}
 use mir.Syntax.{w64}
 use mir.ValLaws.{to_z_pos}
 use borrow.Author.Tests.{leb-true}
-use Rattle.model.specs.Lists.{every}
 use Rattle.model.specs.Checkpoint.{file_size}
-use Rattle.model.specs.Entry.{lent, recorder, no_flash, seen_scratch}
+use Rattle.model.specs.Entry.{lent, recorder, no_flash}
 use Rattle.model.proofs.Guard.{each, good_test, tables_test}
 use Rattle.guard.proofs.Rows.{told}
-use Rattle.ftl.proofs.Files.{encode_tests, encoding_wrong, encoding_size, encoding_unsound, encoding-done, file_small}
+use Rattle.ftl.proofs.Files.{encoding_wrong, encoding_size, encoding_unsound, encoding-done, file_small}
 use Rattle.ftl.proofs.Guards.{clean_is, handed_back}
 use Rattle.ftl.proofs.encode.Goals as goal
 
@@ -21,37 +20,30 @@ encode_fits-requires c = good_test _ (told c.good.ensures c.if-not-good.false)
 pub returns-then-not-encode_fits : goal.returns-then-not-encode_fits
 returns-then-not-encode_fits c = encoding_size _ _ (told c.encode_fits.ensures c.if-not-encode_fits.true)
 
-pub sound-requires-clause-good : goal.sound-requires-clause-good
-sound-requires-clause-good c = good_test _ (told c.good.ensures c.if-not-good.false)
-
-pub sound-requires-clause-tab_len : goal.sound-requires-clause-tab_len
-sound-requires-clause-tab_len c =
+pub sound-requires : goal.sound-requires
+sound-requires c =
     let a = c.args in
-    let x = lent (recorder a.tab.now a.used.now no_flash) a.buffer.now (a.seen.now ∷ []) in
-    let g = told c.good.ensures c.if-not-good.false in
-    let e : every (encode_tests a.geo x) ≡ true = told c.encode_fits.ensures c.if-not-encode_fits.false in
-    let t = tables_test a.geo x (each (encode_tests a.geo x) e 0) in
-    (t.0, t.1, clean_is (seen_scratch a.geo) a.seen.now (each (encode_tests a.geo x) e 2))
+    let e = told c.encode_fits.ensures c.if-not-encode_fits.false in
+    let t = tables_test a.geo (lent (recorder a.tab.now a.used.now no_flash) [] []) (each _ e 0) in
+    record {
+      good = good_test _ (told c.good.ensures c.if-not-good.false);
+      tab_len = (t.0, t.1, clean_is _ a.seen.now (each _ e 2));
+    }
 
 pub returns-then-not-sound : goal.returns-then-not-sound
 returns-then-not-sound c =
-    let a = c.args in
-    let x = lent (recorder a.tab.now a.used.now no_flash) a.buffer.now (a.seen.now ∷ []) in
-    let g = told c.good.ensures c.if-not-good.false in
-    let e : every (encode_tests a.geo x) ≡ true = told c.encode_fits.ensures c.if-not-encode_fits.false in
-    encoding_unsound _ x g e _ (handed_back (seen_scratch a.geo) a.seen.now _ (each (encode_tests a.geo x) e 2) c.sound.ensures.seen_after)
+    let e = told c.encode_fits.ensures c.if-not-encode_fits.false in
+    encoding_unsound _ _ (told c.good.ensures c.if-not-good.false) e _ (handed_back _ _ _ (each _ e 2) c.sound.ensures.seen_after)
     (told c.sound.ensures.value c.if-not-sound.true)
 
-pub encode-requires-clause-good : goal.encode-requires-clause-good
-encode-requires-clause-good c = good_test _ (told c.good.ensures c.if-not-good.false)
-
-pub encode-requires-clause-tab_len : goal.encode-requires-clause-tab_len
-encode-requires-clause-tab_len c =
+pub encode-requires : goal.encode-requires
+encode-requires c =
     let a = c.args in
-    let x = lent (recorder a.tab.now a.used.now no_flash) a.buffer.now (a.seen.now ∷ []) in
-    let g = told c.good.ensures c.if-not-good.false in
-    let e : every (encode_tests a.geo x) ≡ true = told c.encode_fits.ensures c.if-not-encode_fits.false in
-    ((tables_test a.geo x (each (encode_tests a.geo x) e 0)).0, leb-true _ _ (each (encode_tests a.geo x) e 1))
+    let e = told c.encode_fits.ensures c.if-not-encode_fits.false in
+    record {
+      good = good_test _ (told c.good.ensures c.if-not-good.false);
+      tab_len = ((tables_test a.geo (lent (recorder a.tab.now a.used.now no_flash) [] []) (each _ e 0)).0, leb-true _ _ (each _ e 1));
+    }
 
 pub file_size-requires : goal.file_size-requires
 file_size-requires c = good_test _ (told c.good.ensures c.if-not-good.false)
@@ -63,12 +55,10 @@ overflow_cast-result c =
 
 pub returns : goal.returns
 returns c =
-    let a = c.args in
-    let x = lent (recorder a.tab.now a.used.now no_flash) a.buffer.now (a.seen.now ∷ []) in
     let g = told c.good.ensures c.if-not-good.false in
-    let e : every (encode_tests a.geo x) ≡ true = told c.encode_fits.ensures c.if-not-encode_fits.false in
-    let s : file_size c.args.geo < 9223372036854775808 = file_small a.geo (good_test a.geo g) in
-    encoding-done _ x g e _ (handed_back (seen_scratch a.geo) a.seen.now _ (each (encode_tests a.geo x) e 2) c.sound.ensures.seen_after)
+    let e = told c.encode_fits.ensures c.if-not-encode_fits.false in
+    let s : file_size c.args.geo < 9223372036854775808 = file_small c.args.geo (good_test _ g) in
+    encoding-done _ _ g e _ (handed_back _ _ _ (each _ e 2) c.sound.ensures.seen_after)
     (told c.sound.ensures.value c.if-not-sound.false)
-    _ _ (c.encode.ensures a.used.now)
+    _ _ (c.encode.ensures c.args.used.now)
     (to_z_pos w64 c.file_size.result (omega (arith, c.file_size.ensures, s)) ∙ ap pos c.file_size.ensures)

@@ -1,17 +1,15 @@
 -- `restore` meets its contract: each test and reason that refuses, then the tables of the file, and their queue.
-use Rattle.std.proofs.Common.{◌≡◌, ◌<◌, [], ◌∷◌, true, sym, ap, subst, ◌∙◌, arith}
+use Rattle.std.proofs.Common.{◌<◌, [], sym, ap, subst, ◌∙◌, arith}
 use mir.Syntax.{w64}
 use mir.Val.{SFits}
 use mir.ValLaws.{to_z-of_z}
-use Rattle.model.specs.Lists.{every}
-use Rattle.model.specs.Tables.{pages}
 use Rattle.model.specs.Checkpoint.{requeued}
 use Rattle.model.specs.Entry.{lent, recorder, no_flash}
 use Rattle.model.proofs.Guard.{each, good_test, tables_test}
 use Rattle.model.proofs.Sealed.{reason_most}
 use Rattle.guard.proofs.Rows.{told}
 use Rattle.guard.proofs.Signed.{small}
-use Rattle.ftl.proofs.Files.{restore_tests, restoring_wrong, restoring_size, restoring_reason, restoring-done, none_queued}
+use Rattle.ftl.proofs.Files.{restoring_wrong, restoring_size, restoring_reason, restoring-done, none_queued}
 use Rattle.ftl.proofs.Guards.{clean_is, handed_back}
 use Rattle.ftl.proofs.restore.Goals as goal
 
@@ -33,48 +31,36 @@ number-requires c = omega (arith, c.reason-why.ensures, reason_most c.args.geo c
 
 pub returns-then-why-ne0 : goal.returns-then-why-ne0
 returns-then-why-ne0 c =
-    let a = c.args in
-    let x = lent (recorder a.tab.now a.used.now no_flash) [] (a.taken.now ∷ []) in
-    let g = told c.good.ensures c.if-not-good.false in
-    let e : every (restore_tests a.geo x) ≡ true = told c.restore_fits.ensures c.if-not-restore_fits.false in
-    let s : c.reason-why.result < 4096 = omega (arith, c.reason-why.ensures, reason_most a.geo a.file.now) in
-    restoring_reason _ _ _ x g e c.reason-why.result _ c.reason-why.ensures c.if-why-ne0.true
+    let s : c.reason-why.result < 4096 = omega (arith, c.reason-why.ensures, reason_most c.args.geo c.args.file.now) in
+    restoring_reason _ _ _ _ (told c.good.ensures c.if-not-good.false) (told c.restore_fits.ensures c.if-not-restore_fits.false)
+    _ _ c.reason-why.ensures c.if-why-ne0.true
     (to_z-of_z w64 c.number.result (subst (SFits w64) (sym c.number.ensures) (small c.reason-why.result s)) ∙ c.number.ensures)
 
-pub restore-requires-clause-good : goal.restore-requires-clause-good
-restore-requires-clause-good c = good_test _ (told c.good.ensures c.if-not-good.false)
-
-pub restore-requires-clause-tab_len : goal.restore-requires-clause-tab_len
-restore-requires-clause-tab_len c =
+pub restore-requires : goal.restore-requires
+restore-requires c =
     let a = c.args in
-    let x = lent (recorder a.tab.now a.used.now no_flash) [] (a.taken.now ∷ []) in
-    let g = told c.good.ensures c.if-not-good.false in
-    let e : every (restore_tests a.geo x) ≡ true = told c.restore_fits.ensures c.if-not-restore_fits.false in
-    let t = tables_test a.geo x (each (restore_tests a.geo x) e 0) in (
-      t.0,
-      t.1,
-      clean_is (pages a.geo) a.taken.now (each (restore_tests a.geo x) e 1),
-      sym c.reason-why.ensures ∙ c.if-why-ne0.false,
-    )
+    let e = told c.restore_fits.ensures c.if-not-restore_fits.false in
+    let t = tables_test a.geo (lent (recorder a.tab.now a.used.now no_flash) [] []) (each _ e 0) in
+    record {
+      good = good_test _ (told c.good.ensures c.if-not-good.false);
+      tab_len = (t.0, t.1, clean_is _ a.taken.now (each _ e 1), sym c.reason-why.ensures ∙ c.if-why-ne0.false);
+    }
 
-pub requeue-requires-clause-good : goal.requeue-requires-clause-good
-requeue-requires-clause-good c = good_test _ (told c.good.ensures c.if-not-good.false)
-
-pub requeue-requires-clause-tab_len : goal.requeue-requires-clause-tab_len
-requeue-requires-clause-tab_len c =
+pub requeue-requires : goal.requeue-requires
+requeue-requires c =
     let a = c.args in
-    let x = lent (recorder a.tab.now a.used.now no_flash) [] (a.taken.now ∷ []) in
-    let g = told c.good.ensures c.if-not-good.false in
-    let e : every (restore_tests a.geo x) ≡ true = told c.restore_fits.ensures c.if-not-restore_fits.false in
-    (c.restore.auto.tab ∙ (tables_test a.geo x (each (restore_tests a.geo x) e 0)).0, none_queued a.geo a.file.now _ _ c.restore.ensures.used_after)
+    let e = told c.restore_fits.ensures c.if-not-restore_fits.false in
+    let t = tables_test a.geo (lent (recorder a.tab.now a.used.now no_flash) [] []) (each _ e 0) in
+    record {
+      good = good_test _ (told c.good.ensures c.if-not-good.false);
+      tab_len = (c.restore.auto.tab ∙ t.0, none_queued a.geo a.file.now _ _ c.restore.ensures.used_after);
+    }
 
 pub returns : goal.returns
 returns c =
     let a = c.args in
-    let x = lent (recorder a.tab.now a.used.now no_flash) [] (a.taken.now ∷ []) in
-    let g = told c.good.ensures c.if-not-good.false in
-    let e : every (restore_tests a.geo x) ≡ true = told c.restore_fits.ensures c.if-not-restore_fits.false in
-    restoring-done _ _ _ x g e (sym c.reason-why.ensures ∙ c.if-why-ne0.false) _ c.restore.new.used _
-    (c.requeue.auto.tab ∙ c.restore.auto.tab ∙ (tables_test a.geo x (each (restore_tests a.geo x) e 0)).0)
+    let e = told c.restore_fits.ensures c.if-not-restore_fits.false in
+    restoring-done _ _ _ _ (told c.good.ensures c.if-not-good.false) e (sym c.reason-why.ensures ∙ c.if-why-ne0.false) _ _ _
+    (c.requeue.auto.tab ∙ c.restore.auto.tab ∙ (tables_test a.geo (lent (recorder a.tab.now a.used.now no_flash) [] []) (each _ e 0)).0)
     (c.requeue.ensures c.restore.new.used ∙ ap (requeued a.geo a.queueing) c.restore.ensures.used_after)
-    (handed_back (pages a.geo) a.taken.now _ (each (restore_tests a.geo x) e 1) c.restore.ensures.taken_after)
+    (handed_back _ _ _ (each _ e 1) c.restore.ensures.taken_after)

@@ -1,9 +1,8 @@
 -- `show` meets its contract: a part of a page.
-use Rattle.std.proofs.Common.{◌≡◌, ℕ, ◌+◌, ◌*◌, List, ap, ◌∙◌, take, drop, length, ◌≤◌, ◌<◌, arith}
+use Rattle.std.proofs.Common.{◌≡◌, ℕ, ◌+◌, ◌*◌, List, ap, ◌∙◌, take, drop, arith}
 use Rattle.model.specs.declared.Geometry.{Geometry}
 use Rattle.model.specs.Lists.{slot, splice}
 use Rattle.model.specs.Numbers.{seg_of, page_of, flat}
-use Rattle.model.specs.Tables.{pages}
 use Rattle.ftl.proofs.Reading.{shown_end, shown_is}
 use Rattle.ftl.proofs.show.Goals as goal
 
