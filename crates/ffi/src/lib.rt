@@ -1,4 +1,6 @@
 // The public entries and the sizes under C names, for programs in other languages. A geometry is its six numbers, a slice a pointer and a length.
+#![tactic(auto)]
+
 ghost use Rattle.std.specs.Prelude.{◌≡◌, [], ◌∷◌};
 ghost use Rattle.crc32.specs.Crc32.{crc32};
 ghost use Rattle.model.specs.declared.Numbers.TheVariants.{New};

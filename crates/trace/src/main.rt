@@ -1,5 +1,7 @@
 // Document 01's program `trace`: records from standard input, a line for each on standard output, written as it is made.
 // Each function that writes answers whether all was written; the first write that fails is the last, and standard error says so.
+#![tactic(auto)]
+
 ghost use Rattle.std.specs.Prelude.{◌≡◌, true, ◌+◌, ◌*◌, ◌≤◌, length};
 ghost use Rattle.model.specs.Numbers.{Good};
 ghost use Rattle.model.specs.Tables.{tab_words};
@@ -8,34 +10,36 @@ ghost use Rattle.records.specs.Trace.{small?};
 use deeds::Turn;
 use model::{Geometry, LogicalPage};
 use records::Header;
+use std::io::{Print, Read};
 
-fn say(text: &[u8]) -> bool {
-    io::write_all(1, text)
+fn say<P: Print>(to: &P, text: &[u8]) -> bool {
+    to.write_all(text).is_ok()
 }
 
 // "Last: `m` and each entry as segment.page or `-`."
-fn print_map(geo: Geometry, tab: &[u32], line: &mut [u8]) -> bool
+fn print_map<P: Print>(to: &P, geo: Geometry, tab: &[u32], line: &mut [u8]) -> bool
     requires good { Good geo }
     requires tab_len { length tab.now ≡ tab_words geo }
     requires in_bounds { 24 ≤ length line.old }
 {
-    if !say(b"m") {
+    if !say(to, b"m") {
         return false;
     }
     let mut l = 0;
     while l < geo.e {
         let a = page_map::word_of(geo, LogicalPage(l), tab);
         let k = lines::put_entry(geo, a, line);
-        if !say(&line[0..k]) {
+        if !say(to, &line[0..k]) {
             return false;
         }
         l += 1;
     }
-    say(b"\n")
+    say(to, b"\n")
 }
 
 // "on formatted flash and fresh tables, records until the end"
-fn follow(
+fn follow<P: Print>(
+    to: &P,
     geo: Geometry,
     xs: &[u8],
     first: usize,
@@ -64,19 +68,19 @@ fn follow(
             geo, xs, at, bad, tab, used, bytes, marks, counts, &mut fuse, out, file, stored, line,
         );
         let Turn::Told(next, kept, k) = t else {
-            return say(b"t !1\n");
+            return say(to, b"t !1\n");
         };
-        if !say(&line[0..k]) {
+        if !say(to, &line[0..k]) {
             return false;
         }
         at = next;
         stored = kept;
     }
-    print_map(geo, tab, line)
+    print_map(to, geo, tab, line)
 }
 
 // The memory of the largest device that a trace may have, of which each call is lent what the geometry asks.
-fn play(geo: Geometry, xs: &[u8], first: usize, bad: &[u8]) -> bool
+fn play<P: Print>(to: &P, geo: Geometry, xs: &[u8], first: usize, bad: &[u8]) -> bool
     requires geo_value { small? geo ≡ true }
     requires bad_len { length bad.now ≡ 1024 }
 {
@@ -101,6 +105,7 @@ fn play(geo: Geometry, xs: &[u8], first: usize, bad: &[u8]) -> bool
     let words = geo.e + n * 5 + 2 + pages;
     let size = pages * geo.s;
     follow(
+        to,
         geo,
         xs,
         first,
@@ -117,23 +122,38 @@ fn play(geo: Geometry, xs: &[u8], first: usize, bad: &[u8]) -> bool
 }
 
 // "Length is tested first, then the header's form, then its values."
-fn run(xs: &[u8]) -> bool {
+fn run<P: Print>(to: &P, xs: &[u8]) -> bool {
     if 16384 < xs.len() {
-        return say(b"t !3\n");
+        return say(to, b"t !3\n");
     }
     let mut bad_space = [0u8; 1024];
     let bad: &mut [u8] = &mut bad_space;
     match records::read_header(xs, bad) {
-        Header::Form => say(b"t !1\n"),
-        Header::Values => say(b"t !2\n"),
-        Header::Ready(geo, first) => play(geo, xs, first, bad),
+        Header::Form => say(to, b"t !1\n"),
+        Header::Values => say(to, b"t !2\n"),
+        Header::Ready(geo, first) => play(to, geo, xs, first, bad),
     }
 }
 
-fn main() {
+// As much of the input as there is, at most what the buffer holds; how many bytes it is.
+fn read_full<R: Read>(from: &mut R, input: &mut [u8]) -> usize
+    ensures { result ≤ length input.old }
+{
+    let mut at = 0;
+    while at < input.len() {
+        match from.read(&mut input[at..]) {
+            Ok(0) => return at,
+            Ok(k) => at += k,
+            Err(_) => return at,
+        }
+    }
+    at
+}
+
+fn main(rt: HostRuntime) {
     let mut input = [0u8; 16385];
-    let length = io::read_full(0, &mut input);
-    if !run(&input[..length]) {
-        io::write_all(2, b"trace: output not written\n");
+    let length = read_full(&mut rt.stdin(), &mut input);
+    if !run(&rt, &input[..length]) {
+        let _ = rt.stderr().write_all(b"trace: output not written\n");
     }
 }

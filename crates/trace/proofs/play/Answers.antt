@@ -1,0 +1,22 @@
+-- `play` is safe: the memory at hand is enough for the device of a trace.
+use Rattle.std.proofs.Common.{arith}
+use Rattle.trace.proofs.Laws.{few, flat, segments, words, good}
+use Rattle.trace.proofs.play.Goals as goal
+
+pub overflow_mul-words : goal.overflow_mul-words
+overflow_mul-words g c = let G = c.args.geo in let h = c.requires.geo_value in omega (arith, few G h, segments G h, flat G h, words G h, good G h)
+
+pub overflow_add-words : goal.overflow_add-words
+overflow_add-words g c = let G = c.args.geo in let h = c.requires.geo_value in omega (arith, few G h, segments G h, flat G h, words G h, good G h)
+
+pub overflow_add-words-2 : goal.overflow_add-words-2
+overflow_add-words-2 g c = let G = c.args.geo in let h = c.requires.geo_value in omega (arith, few G h, segments G h, flat G h, words G h, good G h)
+
+pub overflow_add-words-3 : goal.overflow_add-words-3
+overflow_add-words-3 g c = let G = c.args.geo in let h = c.requires.geo_value in omega (arith, few G h, segments G h, flat G h, words G h, good G h)
+
+pub slice_bounds-follow-end : goal.slice_bounds-follow-end
+slice_bounds-follow-end g c = omega (arith, segments c.args.geo c.requires.geo_value, c.requires.bad_len)
+
+pub slice_bounds-follow-end-2 : goal.slice_bounds-follow-end-2
+slice_bounds-follow-end-2 g c = words c.args.geo c.requires.geo_value
