@@ -2,7 +2,7 @@
 # Builds the differential driver and the trace oracle, with rustc alone.
 #   build.sh [leaves]   with the word: compare_leaves too
 #   ORIGINALS=DIR   the Rust originals (default ../shared/docs/src beside the project); read there, copied only under OUT
-#   LIBFFI=FILE     the port as a static library (default target/staticlib/libffi.a, made by `rt staticlib ffi` when missing)
+#   LIBFFI=FILE     the port as a static library (default target/staticlib/libffi.a, made by `tools/archive ffi` when missing)
 #   OUT=DIR         where everything goes (default target/oracle)
 # OUT/compare         the port beside the four originals over the stand-ins
 # OUT/compare_leaves  as compare, over the original bits.rs, crc32.rs and page_read.rs as well, the Rust with its own
@@ -15,7 +15,7 @@ root=$(cd "$here/.." && pwd)
 originals=${ORIGINALS:-$root/../shared/docs/src}
 lib=${LIBFFI:-$root/target/staticlib/libffi.a}
 out=${OUT:-$root/target/oracle}
-[ -f "$lib" ] || (cd "$root" && rt staticlib ffi)
+[ -f "$lib" ] || "$root/tools/archive" ffi >/dev/null
 mkdir -p "$out" && out=$(cd "$out" && pwd)
 lib=$(cd "$(dirname "$lib")" && pwd)/$(basename "$lib")
 rustc="rustc --edition 2021 -C opt-level=3 -C codegen-units=4"

@@ -1,4 +1,4 @@
-//! Finds libffi.a: SHILLINGREED_LIB names it or the folder it is in; else it is where `rt staticlib ffi` writes it. It is linked under
+//! Finds libffi.a: SHILLINGREED_LIB names it or the folder it is in; else it is where `tools/archive ffi` writes it. It is linked under
 //! another name, since libffi is also the name of a library that many programs have.
 use std::path::PathBuf;
 use std::{env, fs, process};
@@ -10,7 +10,7 @@ fn main() {
     let given = env::var_os("SHILLINGREED_LIB").map_or_else(|| here.join("../../target/staticlib"), PathBuf::from);
     let archive = if given.is_dir() { given.join("libffi.a") } else { given };
     if let Err(why) = fs::copy(&archive, out.join("libshillingreed.a")) {
-        eprintln!("{}: {why}. Build it with `rt staticlib ffi`, or set SHILLINGREED_LIB", archive.display());
+        eprintln!("{}: {why}. Build it with `tools/archive ffi`, or set SHILLINGREED_LIB", archive.display());
         process::exit(1);
     }
     println!("cargo:rerun-if-changed={}", archive.display());

@@ -10,7 +10,6 @@ use lib.Dec.{leb}
 use lib.ListN.{length, take, drop, take-append-drop}
 use lib.Seq.{get_or-set_same, get_or-set_other}
 use borrow.Author.Tests.{leb-true, leb-false}
-use Rattle.crc32.specs.Crc32.{low}
 use Rattle.model.specs.Lists.{insert_by, sort_by, splice}
 use Rattle.model.specs.declared.Geometry.{Geometry}
 use Rattle.model.specs.declared.Answer.{Answer}
@@ -18,7 +17,7 @@ use Rattle.model.specs.declared.Answer.TheVariants.{Moved, Refused}
 use Rattle.model.specs.Numbers.{Good, seg_of, logical_page, offset}
 use Rattle.model.specs.Tables.{Tables, at, word_of, queue_of}
 use Rattle.model.specs.Sound.{Mapped}
-use Rattle.model.specs.Device.{flash, State, Out, may_program}
+use Rattle.model.specs.Device.{State, Out, may_program}
 use Rattle.model.specs.PageMap.{find, spend, unlink, forget}
 use Rattle.model.specs.PageWrite.{holds, content, old_page, stored, spent, write_at, write_page}
 use Rattle.model.specs.PageGc.{sorted, victim}

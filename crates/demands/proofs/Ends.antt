@@ -23,7 +23,6 @@ use Rattle.model.specs.declared.Found.TheVariants.{At}
 use Rattle.model.specs.PageMap.{find, spend, due, unlink, invalidate, forget, place}
 use Rattle.model.specs.PageWrite.{content, old_page, whole, stored, spent, write_at, write_page}
 use Rattle.model.specs.PageGc.{sorted, victim, taken, copy_answer, cleared, finish_of, last_of, copy_one, drain, collect_of, collect}
-use Rattle.model.specs.Entry.{refused}
 use Rattle.model.specs.Contract.{Fit}
 use Rattle.model.proofs.Working.{Counted}
 use Rattle.model.proofs.Counts.{length_sort, remove, occ_get_d}
@@ -35,7 +34,6 @@ use Rattle.model.proofs.Forget.{Forgot, forgot}
 use Rattle.model.proofs.Find.{Full, Free, found}
 use Rattle.model.proofs.Ops.{perform-append}
 use Rattle.model.proofs.Write.{Busy, Shorter, Wrote}
-use Rattle.model.proofs.Guard.{each}
 use Rattle.model.proofs.Content.{content_same, blank_other}
 use Rattle.model.proofs.Reset.{not_here}
 use Rattle.model.proofs.Taken.{taken_sound, victim_flag, victim_full, victim_seg, victim_off}

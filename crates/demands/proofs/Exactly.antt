@@ -25,7 +25,7 @@ use Rattle.model.specs.PageMap.{find}
 use Rattle.model.specs.PageWrite.{whole, write_page}
 use Rattle.model.specs.PageGc.{victim, taken, copy_answer, last_of, finish_of, copy_one, drain, collect_of, collect, collect_more, collect_list, collect_threshold}
 use Rattle.model.specs.Checkpoint.{file_size, reason_of}
-use Rattle.model.specs.Entry.{Recorder, Lent, lent, Outcome, refused}
+use Rattle.model.specs.Entry.{Recorder, Lent, lent, Outcome}
 use Rattle.model.specs.declared.Queueing.{Queueing}
 use Rattle.model.specs.History.{Call, Format, Open, Read, Write, Collect, CollectList, CollectThreshold, Encode, Restore, run, IsRefused}
 use Rattle.model.specs.Contract.{Fit}

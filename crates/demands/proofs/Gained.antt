@@ -13,14 +13,14 @@ use Rattle.model.specs.declared.Numbers.{Numbers}
 use Rattle.model.specs.declared.Numbers.TheVariants.{Old, New}
 use Rattle.model.specs.declared.Answer.{Answer}
 use Rattle.model.specs.declared.Answer.TheVariants.{Moved, Refused}
-use Rattle.model.specs.declared.Cause.TheVariants.{Wrong, Unsound, NoRoom, CopyNoRoom, CopyDevice}
+use Rattle.model.specs.declared.Cause.TheVariants.{NoRoom, CopyNoRoom, CopyDevice}
 use Rattle.model.specs.Lists.{total}
 use Rattle.model.specs.Numbers.{endless, number}
 use Rattle.model.specs.Causes.{for_room, at_device}
 use Rattle.model.specs.Tables.{Tables, at}
 use Rattle.model.specs.PageGc.{outside, listed_of, victim}
 use Rattle.model.specs.Entry.{Recorder, Lent, lent, Outcome, PromiseIn, write, collection}
-use Rattle.model.specs.History.{Write, Collect, lit, run, InService}
+use Rattle.model.specs.History.{Collect, lit, run, InService}
 use Rattle.model.proofs.Gains.{Spends, one_spent, writes, PassGains, idle, gained, stopped, not_erased, if_short, passes}
 use Rattle.model.proofs.Gains.{finished, finished_gains, finished_room, refused_for_room, room_used_up}
 use Rattle.demands.specs.Given.{Exactly, tab}

@@ -1,7 +1,7 @@
 -- Each mapped page is marked as programmed: true of a unit from its opening on, whatever the flash held, and kept by every call but an
 -- accepted restore, which maps what its file says, and an accepted formatting, which erases under the tables. A restore of a checkpoint of such
 -- a unit keeps it too. So a checkpoint of such a unit comes back as `marked_restores` says.
-use Prim.Native.Nat.{ℕ, zero, suc, ◌+◌, ◌*◌, ◌-◌, ◌≤◌, ◌<◌}
+use Prim.Native.Nat.{ℕ, zero, suc, ◌+◌, ◌*◌, ◌≤◌, ◌<◌}
 use native.Mathlib.Omega.{arith}
 use mathlib.Core.Path.{◌≡◌, refl, sym, ap, ◌∙◌, subst}
 use mathlib.Core.Bool.{Bool, true, false, cond}

@@ -17,7 +17,7 @@ use Rattle.model.specs.declared.Answer.TheVariants.{Moved, Refused}
 use Rattle.model.specs.declared.Cause.TheVariants.{Wrong, Unsound, Unmapped, NoRoom, Device, CopyNoRoom, CopyDevice, Erase, Reason}
 use Rattle.model.specs.Numbers.{Good, logical_page, offset}
 use Rattle.model.specs.Causes.{kind_of}
-use Rattle.model.specs.Device.{Op, State, state, Out, perform_all, finish, behind, go_on}
+use Rattle.model.specs.Device.{Op, State, state, Out, perform_all, finish, go_on}
 use Rattle.model.specs.PageWrite.{write_page}
 use Rattle.model.specs.PageGc.{collect, collect_more, collect_list, collect_threshold}
 use Rattle.model.specs.Checkpoint.{reason_of}

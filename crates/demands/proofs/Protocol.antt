@@ -1,7 +1,7 @@
 -- docs/USING.md, "When a checkpoint's guarantee ends". Behind a stored checkpoint come reads, writes and encodings, restores of it, and collections of
 -- a segment that holds no page mapped at it. Wherever the power goes, the stored checkpoint gives back exactly what it held, and while a new one is being stored,
 -- either of the two.
-use Prim.Native.Nat.{ℕ, suc, ◌-◌}
+use Prim.Native.Nat.{ℕ, suc}
 use mathlib.Core.Path.{◌≡◌, refl, sym, subst}
 use mathlib.Core.List.{List, [], ◌∷◌}
 use lib.ListN.{length}
@@ -10,8 +10,7 @@ use Rattle.model.specs.declared.Geometry.{Geometry}
 use Rattle.model.specs.declared.Answer.{Answer}
 use Rattle.model.specs.Numbers.{endless}
 use Rattle.model.specs.Tables.{Tables, tab_words, pages}
-use Rattle.model.specs.Device.{Flash, flash}
-use Rattle.model.specs.Checkpoint.{words}
+use Rattle.model.specs.Device.{Flash}
 use Rattle.model.specs.Entry.{Recorder, recorder, lent}
 use Rattle.model.specs.declared.Queueing.{Queueing}
 use Rattle.model.specs.History.{Call, Format, Open, Read, Write, Collect, CollectList, CollectThreshold, Encode, Restore, lit, run, after, ops_of, map_in}

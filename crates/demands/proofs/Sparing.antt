@@ -1,5 +1,5 @@
 -- The device operations of reads, writes and encodings, and of a collection whose victim was drained, on every input.
-use Prim.Native.Nat.{ℕ, zero, suc, ◌+◌, ◌-◌, ◌≤◌, ◌<◌}
+use Prim.Native.Nat.{ℕ, zero, suc, ◌≤◌, ◌<◌}
 use native.Mathlib.Omega.{arith}
 use mathlib.Core.Path.{◌≡◌, refl, sym, ap, subst}
 use mathlib.Core.Bool.{Bool, true, false, cond}
@@ -14,7 +14,7 @@ use Rattle.model.specs.declared.Answer.{Answer}
 use Rattle.model.specs.declared.Answer.TheVariants.{Moved, Refused}
 use Rattle.model.specs.declared.Cause.TheVariants.{Erase}
 use Rattle.model.specs.Tables.{Tables, at}
-use Rattle.model.specs.Device.{flash, Op, Program, EraseSeg, State, state, Out, may_erase, finish, refuse, go_on}
+use Rattle.model.specs.Device.{Op, Program, EraseSeg, State, state, Out, may_erase, finish, refuse, go_on}
 use Rattle.model.specs.PageWrite.{old_page, whole, write_page}
 use Rattle.model.specs.PageGc.{victim, taken, cleared, finish_of, last_of, copy_one, drain, collect_of, collect}
 use Rattle.model.specs.Entry.{Recorder, lent, state_of, write, collection}

@@ -1,12 +1,12 @@
 -- docs/USING.md, "When a checkpoint's guarantee ends": the order of calls that a unit keeps to.
-use Rattle.std.specs.Prelude.{ℕ, ◌+◌, ◌-◌, ◌≤◌, ◌<◌, ◌≡◌, ◌⊎◌, ◌≢◌, List, [], ◌∷◌, length, take}
+use Rattle.std.specs.Prelude.{ℕ, ◌+◌, ◌≤◌, ◌<◌, ◌≡◌, ◌⊎◌, ◌≢◌, List, [], ◌∷◌, length, take}
 use Rattle.model.specs.declared.Geometry.{Geometry}
 use Rattle.model.specs.declared.Answer.{Answer}
 use Rattle.model.specs.declared.Answer.TheVariants.{Moved, Refused}
 use Rattle.model.specs.Numbers.{logical_page}
 use Rattle.model.specs.Causes.{kind_of, ByCopy}
 use Rattle.model.specs.Tables.{Tables, at}
-use Rattle.model.specs.Device.{Flash, flash, Op, EraseSeg, raised}
+use Rattle.model.specs.Device.{Flash, Op, EraseSeg, raised}
 use Rattle.model.specs.PageGc.{victim, last_of}
 use Rattle.model.specs.Entry.{Recorder, recorder}
 use Rattle.model.specs.declared.Queueing.{Queueing}

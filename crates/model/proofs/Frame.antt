@@ -8,9 +8,9 @@ use lib.Dec.{eqb}
 use Rattle.model.specs.Numbers.{Geometry, good?, Cause, Reason}
 use Rattle.model.specs.Lists.{every}
 use Rattle.model.specs.Tables.{Tables, view}
-use Rattle.model.specs.Device.{Flash, flash, EraseSeg, State, state, Out, out, finish, behind, blanked, format_from}
+use Rattle.model.specs.Device.{Flash, flash, EraseSeg, state, Out, out, finish, behind, blanked, format_from}
 use Rattle.model.specs.Checkpoint.{Queueing, reason_of}
-use Rattle.model.specs.Entry.{Recorder, recorder, Lent, lent, Outcome, outcome, unless, guarded, flash_fits, formatting, opening, read, encoding, restoring}
+use Rattle.model.specs.Entry.{recorder, Lent, lent, Outcome, outcome, unless, guarded, flash_fits, formatting, opening, read, encoding, restoring}
 
 -- an outcome with h done to what is left
 abbrev pub over : (Lent → Lent) → Outcome → Outcome

@@ -1,6 +1,6 @@
 -- What a write or a collection does to tables and flash, inner step by inner step: a page spent, a page stored, a victim taken, a segment erased and reset. What each
 -- of these keeps, every write and every collection keeps.
-use Prim.Native.Nat.{ℕ, zero, suc, ◌+◌, ◌-◌, ◌≤◌, ◌<◌}
+use Prim.Native.Nat.{ℕ, zero, suc, ◌+◌, ◌≤◌, ◌<◌}
 use native.Mathlib.Omega.{arith}
 use mathlib.Core.Path.{◌≡◌, refl, ◌∙◌, subst}
 use mathlib.Core.Bool.{Bool, true, false, cond}

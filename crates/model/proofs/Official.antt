@@ -7,7 +7,7 @@ use mathlib.Core.Logic.{◌⊎◌, inl, inr, ◌≢◌}
 use mathlib.Core.List.{List, [], ◌∷◌}
 use lib.Dec.{eqb}
 use lib.ListN.{length}
-use Rattle.model.specs.Lists.{bit, occ, slot, zeros}
+use Rattle.model.specs.Lists.{bit, occ, slot}
 use Rattle.model.specs.Numbers.{Geometry, seg_of}
 use Rattle.model.specs.Tables.{Tables, at, word_of, queue_of, list_of}
 use Rattle.model.specs.Sound.{Mapped, Sound, names, slot_of, soundb}

@@ -1,5 +1,5 @@
 -- Document 01, step 5 and the threshold of step 6: take, drain, finish; one collection, from the list, by a threshold.
-use Rattle.std.specs.Prelude.{ℕ, zero, suc, ◌+◌, ◌*◌, ◌-◌, cond, List, [], ◌∷◌, ◌++◌, ltb, eqb, set, drop, replicate}
+use Rattle.std.specs.Prelude.{ℕ, zero, suc, ◌+◌, ◌-◌, cond, List, [], ◌∷◌, ◌++◌, ltb, eqb, set, drop, replicate}
 use Rattle.model.specs.Lists.{on_slot, sort_by, total}
 use Rattle.model.specs.Numbers.{Geometry, Answer, Moved, Refused, Cause, Wrong, Unsound, Unmapped, NoRoom, Device, CopyNoRoom, CopyDevice, Erase, Reason}
 use Rattle.model.specs.Tables.{Tables, at, queue_of, set_free, set_valid, set_used, set_lists, set_lens, set_queue, set_flags, set_queued}
