@@ -25,7 +25,7 @@ use Rattle.model.specs.Entry.{Recorder, Lent, lent, back, state_of}
 use Rattle.model.specs.History.{Write, lit, run, after, content_of}
 use Rattle.model.proofs.Working.{Counted}
 use Rattle.model.proofs.Slots.{same?, less?, by_same}
-use Rattle.model.proofs.Counts.{occ_get_d, length_sort}
+use Rattle.model.proofs.Counts.{occ-get_or, length_sort}
 use Rattle.model.proofs.Reading.{in_valid, counted_queue}
 use Rattle.model.proofs.View.{view-packed}
 use Rattle.model.proofs.Spend.{Next as FirstFree, spend_sound}
@@ -246,7 +246,7 @@ aside_victim G t t' S S' some D =
     first_one (at t'.valid) (queue_of t) (victim t') (victim t)
     (subst (λ q. First (at t'.valid) q (victim t')) same (victim_first G t' S' (omega (arith, D.queued))))
     (first_lowered (at t.valid) (at t'.valid) (queue_of t) (victim t) (victim_first G t S some) D.own
-    (λ j b n. D.others (at (queue_of t) j) (S.full (at (queue_of t) j) (omega (arith, S.once (at (queue_of t) j), occ_get_d (queue_of t) j b))) n))
+    (λ j b n. D.others (at (queue_of t) j) (S.full (at (queue_of t) j) (omega (arith, S.once (at (queue_of t) j), occ-get_or (queue_of t) j b))) n))
   where
     same : queue_of t' ≡ queue_of t
     same = ap (λ k. take k t'.queue) D.queued ∙ ap (take t.queued) D.queue

@@ -25,7 +25,7 @@ use Rattle.model.specs.PageWrite.{content, old_page, whole, stored, spent, write
 use Rattle.model.specs.PageGc.{sorted, victim, taken, copy_answer, cleared, finish_of, last_of, copy_one, drain, collect_of, collect}
 use Rattle.model.specs.Contract.{Fit}
 use Rattle.model.proofs.Working.{Counted}
-use Rattle.model.proofs.Counts.{length_sort, remove, occ_get_d}
+use Rattle.model.proofs.Counts.{length_sort, remove, occ-get_or}
 use Rattle.model.proofs.Reading.{Reads, counted_list, counted_queue, in_valid, names_one}
 use Rattle.model.proofs.Slots.{slot-set_other}
 use Rattle.model.proofs.Spend.{Next, spend_sound}
@@ -166,7 +166,7 @@ remove_last x (y ∷ z ∷ ys) zero n e o = absurd (omega arith)
 remove_last x (y ∷ ys) (suc j) n e o = go (eqb x y) (remove_last x ys j (omega arith) e) o
   where
     there : 0 < occ x ys
-    there = subst (λ z. 0 < occ z ys) e (occ_get_d ys j (omega arith))
+    there = subst (λ z. 0 < occ z ys) e (occ-get_or ys j (omega arith))
 
     go : (b : Bool) → (occ x ys ≡ 1 → remove x ys ≡ take j ys) → bit b + occ x ys ≡ 1 → cond b ys (y ∷ remove x ys) ≡ y ∷ take j ys
     go true ih c = absurd (omega (arith, there))

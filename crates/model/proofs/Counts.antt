@@ -111,11 +111,11 @@ without-slot x (y ∷ a) z h = go (eqb x y) (λ m. without-slot x a z m) h
     go false ih m = ap (λ r. y ∷ r) (ih (omega arith))
 
 -- what a list reads at a place of it stands in it
-pub occ_get_d : (xs : List ℕ) (i : ℕ) → i < length xs → 0 < occ (at xs i) xs
+pub occ-get_or : (xs : List ℕ) (i : ℕ) → i < length xs → 0 < occ (at xs i) xs
 unfolding occ
-occ_get_d [] i h = omega arith
-occ_get_d (x ∷ xs) zero h = omega (arith, bit_same x)
-occ_get_d (x ∷ xs) (suc i) h = omega (arith, occ_get_d xs i (omega arith))
+occ-get_or [] i h = omega arith
+occ-get_or (x ∷ xs) zero h = omega (arith, bit_same x)
+occ-get_or (x ∷ xs) (suc i) h = omega (arith, occ-get_or xs i (omega arith))
 
 -- a number that stands in a list stands at some place of it
 pub occ_index : (x d : ℕ) (xs : List ℕ) → 0 < occ x xs → (i : ℕ) × (i < length xs) × (get_or xs i d ≡ x)

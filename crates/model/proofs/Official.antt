@@ -13,7 +13,7 @@ use Rattle.model.specs.Tables.{Tables, at, word_of, queue_of, list_of}
 use Rattle.model.specs.Sound.{Mapped, Sound, names, slot_of, soundb}
 use Rattle.model.proofs.Working.{Counted, Sized}
 use Rattle.model.proofs.Slots.{same?, less?, by_end, past_end, mapped_lt, slot_at, zeros_from, zero_at}
-use Rattle.model.proofs.Counts.{bit_same, bit_other, occ_get_d, occ_index}
+use Rattle.model.proofs.Counts.{bit_same, bit_other, occ-get_or, occ_index}
 use Rattle.model.proofs.Reading.{Tail, names_one, names_pos, names≤, row_length, Reads, stands, place_of}
 use Rattle.model.proofs.Reading.{list_reads, queue_reads, counted_list, counted_queue, list_mapped, queue_in}
 use Rattle.model.proofs.Decide.{test_counted, counted_test}
@@ -46,10 +46,10 @@ unfolding occ
 occ_apart [] h i j a b e = omega arith
 occ_apart (y ∷ ys) h zero zero a b e = refl
 occ_apart (y ∷ ys) h zero (suc j) a b e =
-    let o : 0 < occ y ys = rw (sym e) at (occ_get_d ys j (omega arith)) in
+    let o : 0 < occ y ys = rw (sym e) at (occ-get_or ys j (omega arith)) in
     omega (arith, h y, bit_same y)
 occ_apart (y ∷ ys) h (suc i) zero a b e =
-    let o : 0 < occ y ys = rw e at (occ_get_d ys i (omega arith)) in
+    let o : 0 < occ y ys = rw e at (occ-get_or ys i (omega arith)) in
     omega (arith, h y, bit_same y)
 occ_apart (y ∷ ys) h (suc i) (suc j) a b e = ap suc (occ_apart ys (λ x. omega (arith, h x)) i j (omega arith) (omega arith) e)
 

@@ -14,7 +14,7 @@ use Rattle.model.specs.Tables.{Tables, at, word_of, queue_of, list_of}
 use Rattle.model.specs.Sound.{Mapped, names, slot_of}
 use Rattle.model.proofs.Working.{Counted, Sized}
 use Rattle.model.proofs.Slots.{same?, less?, mapped_lt, part_fits, slot-length, slot_at}
-use Rattle.model.proofs.Counts.{bit_other, occ_get_d, occ_index}
+use Rattle.model.proofs.Counts.{bit_other, occ-get_or, occ_index}
 
 -- a word names its segment once and no other; the empty word names none
 pub names-empty : (G : Geometry) (g : ℕ) → names G empty g ≡ 0
@@ -77,7 +77,7 @@ pub record Reads (xs : List ℕ) (k : ℕ) (f : ℕ → ℕ) : Type 0 where
 -- a number that f reads stands in xs, and one that stands in xs is read
 module _ {xs : List ℕ} {k : ℕ} {f : ℕ → ℕ} (R : Reads xs k f) where
   pub stands : (i : ℕ) → i < k → 0 < occ (f i) xs
-  stands i h = rw (R.each i h) at (occ_get_d xs i (rw R.size h))
+  stands i h = rw (R.each i h) at (occ-get_or xs i (rw R.size h))
 
   pub place_of : (x : ℕ) → 0 < occ x xs → (i : ℕ) × (i < k) × (f i ≡ x)
   place_of x h =

@@ -16,7 +16,7 @@ use Rattle.model.specs.Sound.{Mapped}
 use Rattle.model.specs.Checkpoint.{bare, restored, settle, settle_all, welcome}
 use Rattle.model.proofs.Working.{Counted}
 use Rattle.model.proofs.Slots.{same?, less?, set_ind, set_both, any_default, same_replicate}
-use Rattle.model.proofs.Counts.{bit_same, bit_other, occ-append, occ_get_d, occ_index, occ-replicate, count_all, sum_lt}
+use Rattle.model.proofs.Counts.{bit_same, bit_other, occ-append, occ-get_or, occ_index, occ-replicate, count_all, sum_lt}
 use Rattle.model.proofs.Reading.{names≤, list_length, list_mapped, in_valid, in_lens}
 use Rattle.model.proofs.Address.{addr_back, empty-out}
 use Rattle.model.proofs.Place.{Room, place_sound, place-map_other}
@@ -157,7 +157,7 @@ module _ (G : Geometry) (K : Good G) (l a : ℕ) (t : Tables) (D : Settled G l t
   nobody x e = go (less? x (length t.map))
     where
       go : (x < length t.map) ⊎ (length t.map ≤ x) → ⊥
-      go (inl b) = omega (arith, rw (any_default t.map x 0 empty b ∙ e) at (occ_get_d t.map x b), W.new)
+      go (inl b) = omega (arith, rw (any_default t.map x 0 empty b ∙ e) at (occ-get_or t.map x b), W.new)
       go (inr b) = some (sym e ∙ get_or-eq_default t.map empty b)
 
   abbrev g : ℕ

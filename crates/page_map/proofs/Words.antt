@@ -23,14 +23,14 @@ use Rattle.page_map.specs.Parts.{Room}
 use Rattle.page_map.proofs.Parts.{length_without, length_push, without_front, push_zero, zeros_part, part_front}
 
 -- where an index is in a list, what is given past the end is nothing
-get_d_any : (xs : List ℕ) (i a b : ℕ) → i < length xs → get_or xs i a ≡ get_or xs i b
-get_d_any [] i a b h = absurd (omega arith)
-get_d_any (x ∷ xs) zero a b h = refl
-get_d_any (x ∷ xs) (suc i) a b h = get_d_any xs i a b (omega arith)
+get_or_any : (xs : List ℕ) (i a b : ℕ) → i < length xs → get_or xs i a ≡ get_or xs i b
+get_or_any [] i a b h = absurd (omega arith)
+get_or_any (x ∷ xs) zero a b h = refl
+get_or_any (x ∷ xs) (suc i) a b h = get_or_any xs i a b (omega arith)
 
 -- the map's word of l, by the word that is read
 pub map-word : (G : Geometry) (w : List ℕ) (l : ℕ) → length w ≡ tab_words G → l < G.e → (u : List ℕ) → at w l ≡ word_of (view G w u) l
-map-word G w l h hl u = get_d_any w l 0 empty (omega arith) ∙ sym (map_at G w u l empty hl)
+map-word G w l h hl u = get_or_any w l 0 empty (omega arith) ∙ sym (map_at G w u l empty hl)
 
 -- the words of a segment, in sound tables
 module _ {G : Geometry} {w u : List ℕ} (H : Held G w u) where
