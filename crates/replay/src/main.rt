@@ -763,13 +763,12 @@ fn play_all(rt: &impl Print, xs: &[u8]) -> Tally {
 }
 
 // Reads until the buffer is full, the input ends or a read fails, and answers how many bytes stand at its front.
-fn read_full(rt: &impl Input, buffer: &mut [u8]) -> usize
+fn read_full<R: Read>(from: &mut R, buffer: &mut [u8]) -> usize
     ensures { result ≤ length buffer.new }
 {
-    let mut reader = rt.reader();
     let mut done = 0;
     while done < buffer.len() {
-        let n = reader.read(&mut buffer[done..]).unwrap_or(0);
+        let n = from.read(&mut buffer[done..]).unwrap_or(0);
         if n == 0 {
             break;
         }
@@ -780,7 +779,7 @@ fn read_full(rt: &impl Input, buffer: &mut [u8]) -> usize
 
 fn main(rt: HostRuntime) {
     let mut input = [0u8; 262145];
-    let length = read_full(&rt, &mut input);
+    let length = read_full(&mut rt.stdin(), &mut input);
     if 262144 < length {
         say(&rt, b"too long\n");
         return;
