@@ -14,8 +14,6 @@ use Rattle.model.specs.Numbers.{Good, good?}
 use Rattle.model.specs.Tables.{pages, tab_words}
 use Rattle.model.specs.Entry.{Recorder}
 use Rattle.model.proofs.Guard.{both, good_test}
-use Rattle.records.specs.declared.Header.{Header}
-use Rattle.records.specs.declared.Header.TheVariants.{Ready, Form, Values}
 use Rattle.records.specs.declared.Next.{Next}
 use Rattle.records.specs.declared.Next.TheVariants.{Found, Bad}
 use Rattle.records.specs.Trace.{small?, next_record}

@@ -1,5 +1,5 @@
 -- `follow` is safe: what a turn told fits the line, and the trace goes on behind its place.
-use Rattle.std.proofs.Common.{arith, length}
+use Rattle.std.proofs.Common.{arith}
 use Rattle.trace.proofs.Laws.{told, good, small}
 use Rattle.trace.proofs.follow.Goals as goal
 

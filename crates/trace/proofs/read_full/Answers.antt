@@ -1,5 +1,5 @@
 -- What was read fits behind what was there: a read that moves nothing has ended the loop.
-use Rattle.std.proofs.Common.{arith, length}
+use Rattle.std.proofs.Common.{arith}
 use Rattle.trace.proofs.read_full.Goals as goal
 
 pub loop-at-smaller : goal.loop-at-smaller
