@@ -10,8 +10,8 @@ use lib.ListN.{length, take, drop}
 use Rattle.model.specs.declared.Geometry.{Geometry}
 use Rattle.model.specs.declared.Numbers.{Numbers}
 use Rattle.model.specs.declared.Numbers.TheVariants.{Old}
-use Rattle.model.specs.declared.Answer.{Answer}
-use Rattle.model.specs.declared.Answer.TheVariants.{Moved, Refused}
+use Rattle.model.specs.Numbers.{Answer}
+use Rattle.model.specs.Numbers.{Ok, Err}
 use Rattle.model.specs.declared.Cause.{Cause}
 use Rattle.model.specs.declared.Cause.TheVariants.{Reason}
 use Rattle.model.specs.Lists.{zeros}
@@ -102,10 +102,10 @@ module _ (G : Geometry) (bad : List ℕ) where
   pub record Refusal (N : Numbers) (c : Call) (r : Recorder) (x : Lent) (below : ℕ) : Type 0 where
     pub cause : Cause
     pub number_is : refusal N cause ≡ suc below
-    pub answer : (run G bad c r).answer ≡ Refused cause
+    pub answer : (run G bad c r).answer ≡ Err cause
     pub reason_in : (k : ℕ) → cause ≡ Reason k → (1 ≤ k) × (k ≤ 9)
-    pub given : When G bad c r (Refused cause)
-    pub leaves_it : Leaves G bad c r cause (outcome x (Refused cause) (run G bad c r).ops)
+    pub given : When G bad c r (Err cause)
+    pub leaves_it : Leaves G bad c r cause (outcome x (Err cause) (run G bad c r).ops)
 
   pub refusal_leaves : {N : Numbers} (c : Call) (r : Recorder) {x : Lent} (below : ℕ) → PromiseIn N (run G bad c r) x (negsuc below) → Refusal N c r x below
   refusal_leaves {N} c r {x} below P = go (sign_of c r P)
@@ -117,10 +117,10 @@ module _ (G : Geometry) (bad : List ℕ) where
             cause = h.cause;
             number_is = h.refusal_is ∙ ap suc q;
             answer = h.answer;
-            reason_in = λ k e. reasons G bad c r k (h.answer ∙ ap Refused e);
-            given = (answers_of G bad c r (Refused h.cause)).only h.answer;
+            reason_in = λ k e. reasons G bad c r k (h.answer ∙ ap Err e);
+            given = (answers_of G bad c r (Err h.cause)).only h.answer;
             leaves_it =
-                subst (λ (y : Lent). Leaves G bad c r h.cause (outcome y (Refused h.cause) (run G bad c r).ops)) (sym P.left_is)
+                subst (λ (y : Lent). Leaves G bad c r h.cause (outcome y (Err h.cause) (run G bad c r).ops)) (sym P.left_is)
                 (record { unchanged = L.unchanged; row = L.row; buffer = L.buffer; scratch = L.scratch });
           }
 
@@ -180,7 +180,7 @@ module _ (G : Geometry) (bad : List ℕ) where
 -- logical page holds what it held when the checkpoint was taken.
 restored-back : (G : Geometry) (bad : List ℕ) (q : Queueing) (H : List ℕ → Recorder → Type 0) (w₀ u₀ : List ℕ) (f₀ : Flash) (b b' : List ℕ) (s s' : List (List ℕ)) (m : ℕ)
     → Promise (encoding G (lent (recorder w₀ u₀ no_flash) b s)) (lent (recorder w₀ u₀ no_flash) b' s') (pos m)
-    → ((r : Recorder) → (run G bad (Encode b s) (recorder w₀ u₀ f₀)).answer ≡ Moved m
+    → ((r : Recorder) → (run G bad (Encode b s) (recorder w₀ u₀ f₀)).answer ≡ Ok m
     → H (take m (run G bad (Encode b s) (recorder w₀ u₀ f₀)).left.buffer) r → length r.words ≡ tab_words G → length r.used ≡ pages G
     → GivesBack G bad (recorder w₀ u₀ f₀) (take m (run G bad (Encode b s) (recorder w₀ u₀ f₀)).left.buffer) q r)
     → (r : Recorder) → H (take m b') r → length r.words ≡ tab_words G → length r.used ≡ pages G

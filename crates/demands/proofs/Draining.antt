@@ -12,8 +12,8 @@ use lib.Seq.{get_or-set_same, get_or-set_other}
 use borrow.Author.Tests.{leb-true, leb-false}
 use Rattle.model.specs.Lists.{insert_by, sort_by, splice}
 use Rattle.model.specs.declared.Geometry.{Geometry}
-use Rattle.model.specs.declared.Answer.{Answer}
-use Rattle.model.specs.declared.Answer.TheVariants.{Moved, Refused}
+use Rattle.model.specs.Numbers.{Answer}
+use Rattle.model.specs.Numbers.{Ok, Err}
 use Rattle.model.specs.Numbers.{Good, seg_of, logical_page, offset}
 use Rattle.model.specs.Tables.{Tables, at, word_of, queue_of}
 use Rattle.model.specs.Sound.{Mapped}
@@ -135,11 +135,11 @@ module _ (G : Geometry) (bad : List ℕ) (sector : ℕ) (d : List ℕ) (s : List
   Did = Wrote G (state_of G x) l (offset G sector) [] deed
 
   own_keeps : (a : Answer) → Own G (state_of G x) deed.st l (offset G sector) [] a → content G deed.st l ≡ content_of G r l
-  own_keeps (Moved k) own =
+  own_keeps (Ok k) own =
       own.1
       ∙ ap holds (splice_none (offset G sector) (old_page G (state_of G x) l) ∙ old_mapped G (state_of G x) l m)
       ∙ sym (content_mapped G (state_of G x) l m)
-  own_keeps (Refused c) own = own
+  own_keeps (Err c) own = own
 
   deed_keeps : Fits G bad x → Did → (j : ℕ) → content_of G (back G x deed).left.unit j ≡ content_of G r j
   deed_keeps X W j =
@@ -155,17 +155,17 @@ module _ (G : Geometry) (bad : List ℕ) (sector : ℕ) (d : List ℕ) (s : List
   abbrev g : ℕ
   g = seg_of G (word_of (tab G r) l)
 
-  deed_shortens : (k : ℕ) → deed.answer ≡ Moved k → Fits G bad x → Did → at (tab G r).free g ≡ 0 → suc (at deed.st.tab.lens g) ≡ at (tab G r).lens g
+  deed_shortens : (k : ℕ) → deed.answer ≡ Ok k → Fits G bad x → Did → at (tab G r).free g ≡ 0 → suc (at deed.st.tab.lens g) ≡ at (tab G r).lens g
   deed_shortens k e X W z =
-      let less : Shorter G (state_of G x) deed.st l g (Moved k) = subst (Shorter G (state_of G x) deed.st l g) e (W.shorter g z) in
+      let less : Shorter G (state_of G x) deed.st l g (Ok k) = subst (Shorter G (state_of G x) deed.st l g) e (W.shorter g z) in
       omega (arith, less m refl, len_pos G (tab G r) X.counted l g m refl)
 
   abbrev OneLess : Recorder → Type 0
   OneLess r' = suc (at (tab G r').lens g) ≡ at (tab G r).lens g
 
-  pub empty-write_shortens : (k : ℕ) → (run G bad (Write sector 0 d s) r).answer ≡ Moved k → at (tab G r).free g ≡ 0 → OneLess (after G bad (Write sector 0 d s) r)
+  pub empty-write_shortens : (k : ℕ) → (run G bad (Write sector 0 d s) r).answer ≡ Ok k → at (tab G r).free g ≡ 0 → OneLess (after G bad (Write sector 0 d s) r)
   empty-write_shortens k =
-      wrote_by G bad sector 0 d x (λ y. y.answer ≡ Moved k → at (tab G r).free g ≡ 0 → OneLess y.left.unit)
+      wrote_by G bad sector 0 d x (λ y. y.answer ≡ Ok k → at (tab G r).free g ≡ 0 → OneLess y.left.unit)
       (λ e. absurd (let z : ◌≡◌ {A = ℕ} 0 1 = cc in omega arith))
       (λ e. absurd (let z : ◌≡◌ {A = ℕ} 0 1 = cc in omega arith))
       (λ X W e z.
@@ -183,8 +183,8 @@ record Aside (v : ℕ) (t t' : Tables) : Type 0 where
 
 -- a refused write changes no list
 abbrev Unlisted : State → State → Answer → Type 0
-Unlisted st st' (Moved m) = Unit {0}
-Unlisted st st' (Refused c) = st'.tab.lens ≡ st.tab.lens
+Unlisted st st' (Ok m) = Unit {0}
+Unlisted st st' (Err c) = st'.tab.lens ≡ st.tab.lens
 
 module _ (G : Geometry) (K : Good G) (bad : List ℕ) (p i : ℕ) (d : List ℕ) (v : ℕ) (st : State) (S : Counted G st.tab) (m : Mapped st.tab p)
     (e : seg_of G (word_of st.tab p) ≡ v) (z : at st.tab.free v ≡ 0) (f : at st.tab.flags v ≡ 1) where
@@ -289,12 +289,12 @@ module _ (G : Geometry) (bad : List ℕ) (sector : ℕ) (d : List ℕ) (s : List
         (victim_flag G (tab G r) X.counted some)
 
     shorter : (a : Answer) → out.answer ≡ a → Unlisted (state_of G lending) out.st a → at out.st.tab.lens v + accepts a ≡ at (tab G r).lens v
-    shorter (Moved k) q u =
+    shorter (Ok k) q u =
         let less : suc (at out.st.tab.lens v) ≡ at (tab G r).lens v =
         subst (λ h. suc (at out.st.tab.lens h) ≡ at (tab G r).lens h) here.1
         (deed_shortens G bad sector d s r here.0 k q X W (ap (at (tab G r).free) here.1 ∙ full)) in
         omega arith
-    shorter (Refused c) q u = omega (arith, ap (λ xs. at xs v) u)
+    shorter (Err c) q u = omega (arith, ap (λ xs. at xs v) u)
 
     went : Shortened G (accepts out.answer) r (back G lending out).left.unit
     went =

@@ -11,15 +11,15 @@ use lib.Seq.{take_at, take-take, get_or-set_same, get_or-set_other}
 use borrow.Author.Tests.{eqb-true, eqb-false, eq-eqb, ne_eqb}
 use Rattle.model.specs.Lists.{bit, occ, slot, splice}
 use Rattle.model.specs.declared.Geometry.{Geometry}
-use Rattle.model.specs.declared.Answer.{Answer}
+use Rattle.model.specs.Numbers.{Answer}
 use Rattle.model.specs.declared.Cause.{Cause}
-use Rattle.model.specs.declared.Answer.TheVariants.{Moved, Refused}
+use Rattle.model.specs.Numbers.{Ok, Err}
 use Rattle.model.specs.declared.Cause.TheVariants.{Wrong, Unsound, Unmapped, NoRoom, Device, CopyNoRoom, CopyDevice, Erase, Reason}
 use Rattle.model.specs.Numbers.{Good, empty, seg_of}
 use Rattle.model.specs.Tables.{Tables, at, word_of, queue_of, list_of}
 use Rattle.model.specs.Sound.{Mapped, slot_of}
 use Rattle.model.specs.Device.{Flash, Op, Program, EraseSeg, State, state, Out, out, may_program, may_erase, raised, blanked, perform_all, finish, refuse, behind, go_on}
-use Rattle.model.specs.declared.Found.TheVariants.{At}
+use Rattle.model.specs.PageMap.{Some, spot}
 use Rattle.model.specs.PageMap.{find, spend, due, unlink, invalidate, forget, place}
 use Rattle.model.specs.PageWrite.{content, old_page, whole, stored, spent, write_at, write_page}
 use Rattle.model.specs.PageGc.{sorted, victim, taken, copy_answer, cleared, finish_of, last_of, copy_one, drain, collect_of, collect}
@@ -47,7 +47,7 @@ use Rattle.demands.proofs.Walk.{write_by}
 pub record Stored (G : Geometry) (bad : List ℕ) (d : List ℕ) (m : ℕ) (st : State) (ops : List Op) : Type 0 where
   pub seg : ℕ
   pub page : ℕ
-  pub found : find G bad st.tab ≡ At seg page
+  pub found : find G bad st.tab ≡ Some (spot seg page)
   pub allowed : may_program G seg page st.flash ≡ true
   pub moved : m ≡ length d
   pub bytes : List ℕ
@@ -55,16 +55,16 @@ pub record Stored (G : Geometry) (bad : List ℕ) (d : List ℕ) (m : ℕ) (st :
 
 -- how a write of the bytes d ends, by its answer
 abbrev pub WriteEnds : Geometry → List ℕ → List ℕ → State → State → List Op → Answer → Type 0
-WriteEnds G bad d st st' ops (Moved m) = Stored G bad d m st ops
-WriteEnds G bad d st st' ops (Refused NoRoom) = NotFound G bad st st' × (ops ≡ [])
-WriteEnds G bad d st st' ops (Refused Device) = Spent G bad st st' × (ops ≡ [])
-WriteEnds G bad d st st' ops (Refused Wrong) = ⊥
-WriteEnds G bad d st st' ops (Refused Unsound) = ⊥
-WriteEnds G bad d st st' ops (Refused Unmapped) = ⊥
-WriteEnds G bad d st st' ops (Refused CopyNoRoom) = ⊥
-WriteEnds G bad d st st' ops (Refused CopyDevice) = ⊥
-WriteEnds G bad d st st' ops (Refused Erase) = ⊥
-WriteEnds G bad d st st' ops (Refused (Reason r)) = ⊥
+WriteEnds G bad d st st' ops (Ok m) = Stored G bad d m st ops
+WriteEnds G bad d st st' ops (Err NoRoom) = NotFound G bad st st' × (ops ≡ [])
+WriteEnds G bad d st st' ops (Err Device) = Spent G bad st st' × (ops ≡ [])
+WriteEnds G bad d st st' ops (Err Wrong) = ⊥
+WriteEnds G bad d st st' ops (Err Unsound) = ⊥
+WriteEnds G bad d st st' ops (Err Unmapped) = ⊥
+WriteEnds G bad d st st' ops (Err CopyNoRoom) = ⊥
+WriteEnds G bad d st st' ops (Err CopyDevice) = ⊥
+WriteEnds G bad d st st' ops (Err Erase) = ⊥
+WriteEnds G bad d st st' ops (Err (Reason r)) = ⊥
 
 abbrev EndsAs : Geometry → List ℕ → List ℕ → State → Out → Type 0
 EndsAs G bad d st o = WriteEnds G bad d st o.st o.ops o.answer
@@ -75,7 +75,7 @@ module _ (G : Geometry) (K : Good G) (bad : List ℕ) where
   unfolding write_page write_at
   write_ends l off d st S = go (found G K st.tab S bad)
     where
-      at_page : (g k : ℕ) → find G bad st.tab ≡ At g k → Next G st.tab g k → at bad g ≡ 0 → (b : Bool) → may_program G g k st.flash ≡ b
+      at_page : (g k : ℕ) → find G bad st.tab ≡ Some (spot g k) → Next G st.tab g k → at bad g ≡ 0 → (b : Bool) → may_program G g k st.flash ≡ b
           → EndsAs G bad d st (cond b (stored G l (length d) g k (splice off d (old_page G st l)) st) (spent G g k st))
       at_page g k e N z true q =
           record { seg = g; page = k; found = e; allowed = q; moved = refl; bytes = splice off d (old_page G st l); done = refl }
@@ -130,8 +130,8 @@ forget_flagged G l v t m e f =
 
 -- what a copy leaves of the queue and the flags, done or refused, and the operations that it did
 abbrev One : List Op → Answer → Type 0
-One ops (Moved m) = length ops ≡ 1
-One ops (Refused c) = ops ≡ []
+One ops (Ok m) = length ops ≡ 1
+One ops (Err c) = ops ≡ []
 
 record Quietly (st : State) (o : Out) : Type 0 where
   queue : o.st.tab.queue ≡ st.tab.queue
@@ -174,8 +174,8 @@ remove_last x (y ∷ ys) (suc j) n e o = go (eqb x y) (remove_last x ys j (omega
 
 -- a copy that is done takes the last logical page off v's list, and leaves the others in order
 abbrev Shrinks : Geometry → ℕ → State → State → Answer → Type 0
-Shrinks G v st st' (Moved m) = list_of G st'.tab v ≡ take (at st.tab.lens v - 1) (list_of G st.tab v)
-Shrinks G v st st' (Refused c) = Unit {0}
+Shrinks G v st st' (Ok m) = list_of G st'.tab v ≡ take (at st.tab.lens v - 1) (list_of G st.tab v)
+Shrinks G v st st' (Err c) = Unit {0}
 
 module _ (G : Geometry) (K : Good G) (bad : List ℕ) (v : ℕ) (seg : v < G.n) (st : State) (S : Counted G st.tab) (some : at st.tab.lens v ≢ 0)
     (z : at st.tab.free v ≡ 0) (f : at st.tab.flags v ≡ 1) where
@@ -242,8 +242,8 @@ module _ (G : Geometry) (K : Good G) (bad : List ℕ) (v : ℕ) (seg : v < G.n) 
 
 -- how draining v ends: after `done` copies, with the list empty, or at a copy that was refused
 abbrev pub DrainEnd : Geometry → List ℕ → ℕ → State → State → Answer → Type 0
-DrainEnd G bad v here st' (Moved m) = (st' ≡ here) × (at here.tab.lens v ≡ 0)
-DrainEnd G bad v here st' (Refused c) = (st' ≡ (copy_one G bad v here).st) × ((copy_one G bad v here).answer ≡ Refused c) × (at here.tab.lens v ≢ 0)
+DrainEnd G bad v here st' (Ok m) = (st' ≡ here) × (at here.tab.lens v ≡ 0)
+DrainEnd G bad v here st' (Err c) = (st' ≡ (copy_one G bad v here).st) × ((copy_one G bad v here).answer ≡ Err c) × (at here.tab.lens v ≢ 0)
 
 pub record DrainEnds (G : Geometry) (bad : List ℕ) (v : ℕ) (st : State) (o : Out) : Type 0 where
   pub done : ℕ
@@ -305,7 +305,7 @@ module _ (G : Geometry) (K : Good G) (bad : List ℕ) (v : ℕ) (seg : v < G.n) 
 
       go : (a : Answer) → o.answer ≡ a → Shorter G st o.st l v a → One o.ops a → Shrinks G v st o.st a
           → DrainEnds G bad v st (go_on (copy_answer a) (out o.st (copy_answer a) o.ops) rest)
-      go (Refused r) q less n shrunk =
+      go (Err r) q less n shrunk =
           record {
             done = 0;
             here = st;
@@ -315,7 +315,7 @@ module _ (G : Geometry) (K : Good G) (bad : List ℕ) (v : ℕ) (seg : v < G.n) 
             stand = subst (Stand G v 0 st st) (sym n) (stand_none st z);
             end = (refl, ap copy_answer q, some);
           }
-      go (Moved k) q less n shrunk =
+      go (Ok k) q less n shrunk =
           let short : at o.st.tab.lens v ≡ at st.tab.lens v - 1 = less here_in.0 here_in.1 in
           let I : DrainEnds G bad v o.st (rest o.st) = ih o.st short w.sound w.fit B.full B.flagged in
           record {
@@ -404,7 +404,7 @@ module _ (G : Geometry) (K : Good G) (bad : List ℕ) (st : State) (S : Counted 
     first l = D.stand.contents l ∙ content_same G st st₁ l refl (λ _. refl)
 
     -- a copy that was refused
-    none_copied : (c : Cause) → d.st ≡ (copy_one G bad v D.here).st → (copy_one G bad v D.here).answer ≡ Refused c → at D.here.tab.lens v ≢ 0
+    none_copied : (c : Cause) → d.st ≡ (copy_one G bad v D.here).st → (copy_one G bad v D.here).answer ≡ Err c → at D.here.tab.lens v ≢ 0
         → NotFound G bad D.here d.st → CopyEnds G bad D.here d.st c → CopyRefused G bad c st d.st d.ops
     none_copied c e q n N last =
         record {
@@ -420,7 +420,7 @@ module _ (G : Geometry) (K : Good G) (bad : List ℕ) (st : State) (S : Counted 
               subst (λ z. ContentKept G st z d.ops) (sym N.same) (record { contents = first; performs = D.stand.performs });
         }
 
-    one_spent : (c : Cause) → d.st ≡ (copy_one G bad v D.here).st → (copy_one G bad v D.here).answer ≡ Refused c → at D.here.tab.lens v ≢ 0
+    one_spent : (c : Cause) → d.st ≡ (copy_one G bad v D.here).st → (copy_one G bad v D.here).answer ≡ Err c → at D.here.tab.lens v ≢ 0
         → Spent G bad D.here d.st → CopyEnds G bad D.here d.st c → CopyRefused G bad c st d.st d.ops
     one_spent c e q n P last =
         record {
@@ -448,21 +448,21 @@ module _ (G : Geometry) (K : Good G) (bad : List ℕ) (st : State) (S : Counted 
     copy_of = write_page G bad (last_of G v D.here.tab) 0 (whole G D.here (last_of G v D.here.tab)) D.here
 
     ends_copy : (a : Answer) → copy_of.answer ≡ a → WriteEnds G bad (whole G D.here (last_of G v D.here.tab)) D.here copy_of.st copy_of.ops a
-        → (c : Cause) → d.st ≡ copy_of.st → copy_answer a ≡ Refused c → at D.here.tab.lens v ≢ 0 → PassEnds G bad st d.st d.ops (copy_answer a)
-    ends_copy (Moved m) q w c e n some = absurd (let z : ◌≡◌ {A = ℕ} 0 1 = cc in omega arith)
-    ends_copy (Refused NoRoom) q w c e n some =
+        → (c : Cause) → d.st ≡ copy_of.st → copy_answer a ≡ Err c → at D.here.tab.lens v ≢ 0 → PassEnds G bad st d.st d.ops (copy_answer a)
+    ends_copy (Ok m) q w c e n some = absurd (let z : ◌≡◌ {A = ℕ} 0 1 = cc in omega arith)
+    ends_copy (Err NoRoom) q w c e n some =
         let N : NotFound G bad D.here d.st = subst (NotFound G bad D.here) (sym e) w.0 in
         none_copied CopyNoRoom e (ap copy_answer q) some N N
-    ends_copy (Refused Device) q w c e n some =
+    ends_copy (Err Device) q w c e n some =
         let P : Spent G bad D.here d.st = subst (Spent G bad D.here) (sym e) w.0 in
         one_spent CopyDevice e (ap copy_answer q) some P P
-    ends_copy (Refused Wrong) q w c e n some = absurd w
-    ends_copy (Refused Unsound) q w c e n some = absurd w
-    ends_copy (Refused Unmapped) q w c e n some = absurd w
-    ends_copy (Refused CopyNoRoom) q w c e n some = absurd w
-    ends_copy (Refused CopyDevice) q w c e n some = absurd w
-    ends_copy (Refused Erase) q w c e n some = absurd w
-    ends_copy (Refused (Reason r)) q w c e n some = absurd w
+    ends_copy (Err Wrong) q w c e n some = absurd w
+    ends_copy (Err Unsound) q w c e n some = absurd w
+    ends_copy (Err Unmapped) q w c e n some = absurd w
+    ends_copy (Err CopyNoRoom) q w c e n some = absurd w
+    ends_copy (Err CopyDevice) q w c e n some = absurd w
+    ends_copy (Err Erase) q w c e n some = absurd w
+    ends_copy (Err (Reason r)) q w c e n some = absurd w
 
     -- the erase that was refused
     ends_erase : may_erase G v D.here.flash ≡ false → at D.here.tab.lens v ≡ 0 → EraseRefused G bad st D.here d.ops
@@ -513,12 +513,12 @@ module _ (G : Geometry) (K : Good G) (bad : List ℕ) (st : State) (S : Counted 
 
     then : (a : Answer) → DrainEnd G bad v D.here d.st a → Ends (go_on a (out d.st a d.ops) (λ st'. finish_of G v st'))
     unfolding finish_of
-    then (Refused c) e =
+    then (Err c) e =
         subst (PassEnds G bad st d.st d.ops) e.1
         (ends_copy copy_of.answer refl
         (write_ends G K bad (last_of G v D.here.tab) 0 (whole G D.here (last_of G v D.here.tab)) D.here D.sound)
         c e.0 e.1 e.2)
-    then (Moved m) e = go (may_erase G v d.st.flash) refl
+    then (Ok m) e = go (may_erase G v d.st.flash) refl
       where
         go : (b : Bool) → may_erase G v d.st.flash ≡ b → Ends (behind d.ops (cond b (cleared G v d.st) (refuse Erase d.st)))
         go true q =

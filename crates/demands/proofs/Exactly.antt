@@ -11,16 +11,16 @@ use lib.Seq.{length-take-le}
 use borrow.Author.Tests.{eqb-true, eqb-false, eq-eqb, ne_eqb, lt-ltb, le-ltb}
 use Rattle.model.specs.Lists.{total}
 use Rattle.model.specs.declared.Geometry.{Geometry}
-use Rattle.model.specs.declared.Answer.{Answer}
+use Rattle.model.specs.Numbers.{Answer}
 use Rattle.model.specs.declared.Cause.{Cause}
-use Rattle.model.specs.declared.Answer.TheVariants.{Moved, Refused}
+use Rattle.model.specs.Numbers.{Ok, Err}
 use Rattle.model.specs.declared.Cause.TheVariants.{Wrong, Unsound, Unmapped, NoRoom, Device, CopyNoRoom, CopyDevice, Erase, Reason}
 use Rattle.model.specs.Numbers.{Good, empty, logical_page, offset}
 use Rattle.model.specs.Causes.{Kind, in_tests, in_read, in_write, in_copy, in_erase, in_file, kind_of, ByCopy}
 use Rattle.model.specs.Tables.{Tables, at, word_of}
 use Rattle.model.specs.Sound.{Mapped}
 use Rattle.model.specs.Device.{Flash, Op, State, state, Out, out, go_on, may_erase, finish}
-use Rattle.model.specs.declared.Found.TheVariants.{Nothing}
+use Rattle.model.specs.PageMap.{None}
 use Rattle.model.specs.PageMap.{find}
 use Rattle.model.specs.PageWrite.{whole, write_page}
 use Rattle.model.specs.PageGc.{victim, taken, copy_answer, last_of, finish_of, copy_one, drain, collect_of, collect, collect_more, collect_list, collect_threshold}
@@ -52,10 +52,10 @@ not-true true n = absurd (n refl)
 not-true false n = refl
 
 -- sound tables with no free page outside the bad list
-nothing_free : (G : Geometry) (K : Good G) (bad : List ℕ) (t : Tables) (S : Counted G t) → NoneFree G bad t → find G bad t ≡ Nothing
+nothing_free : (G : Geometry) (K : Good G) (bad : List ℕ) (t : Tables) (S : Counted G t) → NoneFree G bad t → find G bad t ≡ None
 nothing_free G K bad t S n = go (found G K t S bad)
   where
-    go : Full G K t S bad (find G bad t) ⊎ Free G K t S bad (find G bad t) → find G bad t ≡ Nothing
+    go : Full G K t S bad (find G bad t) ⊎ Free G K t S bad (find G bad t) → find G bad t ≡ None
     go (inl h) = h.is
     go (inr h) = absurd (let z : at t.free h.seg ≡ 0 = n h.seg h.next.seg h.good in omega (arith, h.next.some_free))
 
@@ -70,12 +70,12 @@ module _ (G : Geometry) (bad : List ℕ) where
   InDeed (in_file r) = Unit {0}
 
   abbrev pub Plain : Answer → Type 0
-  Plain (Moved m) = Unit {0}
-  Plain (Refused c) = InDeed (kind_of c)
+  Plain (Ok m) = Unit {0}
+  Plain (Err c) = InDeed (kind_of c)
 
   pass_plain : (a : Answer) → Pass a → Plain a
-  pass_plain (Moved m) h = tt
-  pass_plain (Refused c) h = pass_kind InDeed (λ _. tt) tt (kind_of c) h
+  pass_plain (Ok m) h = tt
+  pass_plain (Err c) h = pass_kind InDeed (λ _. tt) tt (kind_of c) h
 
   write_plain : (l off : ℕ) (d : List ℕ) (st : State) → Plain (write_page G bad l off d st).answer
   write_plain l off d st = write_by G bad (λ o. Plain o.answer) l off d st tt (λ _ _ _. tt) (λ _ _ _. tt)
@@ -120,9 +120,9 @@ module _ (G : Geometry) (bad : List ℕ) where
 
     -- what follows of an answer, where each test says what it says
     by_tests : (a : Answer) {P : Type 0}
-        → ((SizesRight G bad c r → ⊥) → Refused Wrong ≡ a → P)
-        → (SizesRight G bad c r → (TablesSound G c r → ⊥) → Refused Unsound ≡ a → P)
-        → (SizesRight G bad c r → TablesSound G c r → (Within G c → ⊥) → Refused Wrong ≡ a → P)
+        → ((SizesRight G bad c r → ⊥) → Err Wrong ≡ a → P)
+        → (SizesRight G bad c r → (TablesSound G c r → ⊥) → Err Unsound ≡ a → P)
+        → (SizesRight G bad c r → TablesSound G c r → (Within G c → ⊥) → Err Wrong ≡ a → P)
         → (Passed G bad c r → (deed G bad c r).answer ≡ a → P)
         → (run G bad c r).answer ≡ a → P
     by_tests a {P} w u v f =
@@ -133,17 +133,17 @@ module _ (G : Geometry) (bad : List ℕ) where
         (λ h k o. v (right h) (sound h k) (outside o))
         (λ h k l m. f (record { sizes_right = right h; sound = sound h k; within = (within_exactly G c).only (l, m) })))
 
-    pub wrong_exactly : Exactly ((run G bad c r).answer ≡ Refused Wrong) (WrongWhen G bad c r)
+    pub wrong_exactly : Exactly ((run G bad c r).answer ≡ Err Wrong) (WrongWhen G bad c r)
     wrong_exactly =
         record {
           only =
-              by_tests (Refused Wrong) (λ h _. inl h) (λ _ _ e. absurd (let z : ◌≡◌ {A = ℕ} 0 1 = cc in omega arith))
+              by_tests (Err Wrong) (λ h _. inl h) (λ _ _ e. absurd (let z : ◌≡◌ {A = ℕ} 0 1 = cc in omega arith))
               (λ h S n _. inr (h, S, n))
               (λ _ e. absurd (subst Plain e (deed_plain c r)));
           whenever = back_to;
         }
       where
-        tests : SizesRight G bad c r → TablesSound G c r → (Within G c → ⊥) → (p : Bool) → page_test G c ≡ p → (run G bad c r).answer ≡ Refused Wrong
+        tests : SizesRight G bad c r → TablesSound G c r → (Within G c → ⊥) → (p : Bool) → page_test G c ≡ p → (run G bad c r).answer ≡ Err Wrong
         tests h S n false p =
             ap (λ (y : Outcome). y.answer)
             (run_is G bad c r ∙ guarded_page _ _ _ _ x _ ((sizes_exactly G bad c r).whenever h) ((sound_exactly G bad c r h).whenever S) p)
@@ -153,16 +153,16 @@ module _ (G : Geometry) (bad : List ℕ) where
             ∙ guarded_overrun _ _ _ _ x _ ((sizes_exactly G bad c r).whenever h) ((sound_exactly G bad c r h).whenever S) p
             (not-true (overrun_test G c) (λ o. n ((within_exactly G c).only (p, o)))))
 
-        back_to : WrongWhen G bad c r → (run G bad c r).answer ≡ Refused Wrong
+        back_to : WrongWhen G bad c r → (run G bad c r).answer ≡ Err Wrong
         back_to (inl h) =
             ap (λ (y : Outcome). y.answer) (run_is G bad c r ∙ guarded_sizes _ _ _ _ x _ (not-true _ (λ a. h (right a))))
         back_to (inr h) = tests h.0 h.1 h.2 (page_test G c) refl
 
-    pub unsound_exactly : Exactly ((run G bad c r).answer ≡ Refused Unsound) (UnsoundWhen G bad c r)
+    pub unsound_exactly : Exactly ((run G bad c r).answer ≡ Err Unsound) (UnsoundWhen G bad c r)
     unsound_exactly =
         record {
           only =
-              by_tests (Refused Unsound) (λ _ e. absurd (let z : ◌≡◌ {A = ℕ} 0 1 = cc in omega arith)) (λ h n _. (h, n))
+              by_tests (Err Unsound) (λ _ e. absurd (let z : ◌≡◌ {A = ℕ} 0 1 = cc in omega arith)) (λ h n _. (h, n))
               (λ _ _ _ e. absurd (let z : ◌≡◌ {A = ℕ} 0 1 = cc in omega arith))
               (λ _ e. absurd (subst Plain e (deed_plain c r)));
           whenever = λ h.
@@ -207,35 +207,35 @@ module _ (G : Geometry) (bad : List ℕ) where
     abbrev restore : Call
     restore = Restore q b s
 
-    pub restore_exactly : Exactly ((run G bad (Restore q b s) r).answer ≡ Moved 0) (Passed G bad (Restore q b s) r × (reason_of G b ≡ 0))
+    pub restore_exactly : Exactly ((run G bad (Restore q b s) r).answer ≡ Ok 0) (Passed G bad (Restore q b s) r × (reason_of G b ≡ 0))
     unfolding deed
     restore_exactly =
-        in_words G bad restore r (Moved 0) tt
+        in_words G bad restore r (Ok 0) tt
         (λ _.
         record {
           only =
-              unless_ends (λ y. y.answer ≡ Moved 0 → reason_of G b ≡ 0) (eqb (reason_of G b) 0) _ (lent r [] s) _
+              unless_ends (λ y. y.answer ≡ Ok 0 → reason_of G b ≡ 0) (eqb (reason_of G b) 0) _ (lent r [] s) _
               (λ _ e. absurd (let z : ◌≡◌ {A = ℕ} 0 1 = cc in omega arith))
               (λ h _. eqb-true _ _ h);
           whenever = λ e. ap (λ (y : Outcome). y.answer) (unless_passes _ _ (lent r [] s) _ (eq-eqb _ _ e));
         })
 
     pub reason_exactly : (k : ℕ)
-        → Exactly ((run G bad (Restore q b s) r).answer ≡ Refused (Reason k)) (Passed G bad (Restore q b s) r × ((reason_of G b ≡ k) × (k ≢ 0)))
+        → Exactly ((run G bad (Restore q b s) r).answer ≡ Err (Reason k)) (Passed G bad (Restore q b s) r × ((reason_of G b ≡ k) × (k ≢ 0)))
     unfolding deed
     reason_exactly k =
-        in_words G bad restore r (Refused (Reason k)) tt
+        in_words G bad restore r (Err (Reason k)) tt
         (λ _.
         record {
           only =
-              unless_ends (λ y. y.answer ≡ Refused (Reason k) → (reason_of G b ≡ k) × (k ≢ 0)) (eqb (reason_of G b) 0) _ (lent r [] s) _
+              unless_ends (λ y. y.answer ≡ Err (Reason k) → (reason_of G b ≡ k) × (k ≢ 0)) (eqb (reason_of G b) 0) _ (lent r [] s) _
               (λ h e.
               let i : reason_of G b ≡ k = cc in
               (i, λ z. eqb-false (reason_of G b) 0 h (i ∙ z)))
               (λ _ e. absurd (let z : ◌≡◌ {A = ℕ} 0 1 = cc in omega arith));
           whenever = λ h.
-              unless_ends (λ y. y.answer ≡ Refused (Reason k)) (eqb (reason_of G b) 0) _ (lent r [] s) _
-              (λ _. ap (λ j. Refused (Reason j)) h.0)
+              unless_ends (λ y. y.answer ≡ Err (Reason k)) (eqb (reason_of G b) 0) _ (lent r [] s) _
+              (λ _. ap (λ j. Err (Reason j)) h.0)
               (λ e. absurd (h.1 (sym h.0 ∙ eqb-true _ _ e)));
         })
 
@@ -248,35 +248,35 @@ module _ (G : Geometry) (bad : List ℕ) where
     word = word_of (tab G r) (logical_page G sector)
 
     -- "read of an unmapped page"
-    pub unmapped_exactly : Exactly ((run G bad (Read sector len o s) r).answer ≡ Refused Unmapped)
+    pub unmapped_exactly : Exactly ((run G bad (Read sector len o s) r).answer ≡ Err Unmapped)
         (Passed G bad (Read sector len o s) r × (word_of (tab G r) (logical_page G sector) ≡ empty))
     unfolding deed
     unmapped_exactly =
-        in_words G bad reading r (Refused Unmapped) tt
+        in_words G bad reading r (Err Unmapped) tt
         (λ _.
         record {
           only =
-              unless_ends (λ y. y.answer ≡ Refused Unmapped → word ≡ empty) (not (eqb word empty)) Unmapped (lent r o s) _
+              unless_ends (λ y. y.answer ≡ Err Unmapped → word ≡ empty) (not (eqb word empty)) Unmapped (lent r o s) _
               (λ h _. eqb-true word empty (not_flips _ h))
               (λ _ e. absurd (let z : ◌≡◌ {A = ℕ} 0 1 = cc in omega arith));
           whenever = λ e.
-              unless_ends (λ y. y.answer ≡ Refused Unmapped) (not (eqb word empty)) Unmapped (lent r o s) _ (λ _. refl)
+              unless_ends (λ y. y.answer ≡ Err Unmapped) (not (eqb word empty)) Unmapped (lent r o s) _ (λ _. refl)
               (λ h. absurd (eqb-false word empty (flips_not _ h) e));
         })
 
-    pub read_exactly : Exactly ((run G bad (Read sector len o s) r).answer ≡ Moved len)
+    pub read_exactly : Exactly ((run G bad (Read sector len o s) r).answer ≡ Ok len)
         (Passed G bad (Read sector len o s) r × Mapped (tab G r) (logical_page G sector))
     unfolding deed
     read_exactly =
-        in_words G bad reading r (Moved len) tt
+        in_words G bad reading r (Ok len) tt
         (λ _.
         record {
           only =
-              unless_ends (λ y. y.answer ≡ Moved len → Mapped (tab G r) (logical_page G sector)) (not (eqb word empty)) Unmapped (lent r o s) _
+              unless_ends (λ y. y.answer ≡ Ok len → Mapped (tab G r) (logical_page G sector)) (not (eqb word empty)) Unmapped (lent r o s) _
               (λ _ e. absurd (let z : ◌≡◌ {A = ℕ} 0 1 = cc in omega arith))
               (λ h _. eqb-false word empty (flips_not _ h));
           whenever = λ m.
-              unless_ends (λ y. y.answer ≡ Moved len) (not (eqb word empty)) Unmapped (lent r o s) _
+              unless_ends (λ y. y.answer ≡ Ok len) (not (eqb word empty)) Unmapped (lent r o s) _
               (λ h. absurd (m (eqb-true word empty (not_flips _ h))))
               (λ _. refl);
         })
@@ -303,11 +303,11 @@ module _ (G : Geometry) (bad : List ℕ) where
     Ends = WriteEnds G bad (take len d) (state_in G r) inner.st inner.ops
 
     -- "no segment outside the bad list has free count above 0"
-    pub no_room_exactly : Exactly ((run G bad (Write sector len d s) r).answer ≡ Refused NoRoom)
+    pub no_room_exactly : Exactly ((run G bad (Write sector len d s) r).answer ≡ Err NoRoom)
         (Passed G bad (Write sector len d s) r × NoneFree G bad (tab G r))
     unfolding deed
     no_room_exactly =
-        in_words G bad writing r (Refused NoRoom) tt
+        in_words G bad writing r (Err NoRoom) tt
         (λ P.
         record {
           only = λ e. (subst Ends e (ends P)).0.none;
@@ -315,41 +315,41 @@ module _ (G : Geometry) (bad : List ℕ) where
         })
 
     -- "the device refuses the programming"
-    pub device_exactly : Exactly ((run G bad (Write sector len d s) r).answer ≡ Refused Device)
+    pub device_exactly : Exactly ((run G bad (Write sector len d s) r).answer ≡ Err Device)
         (Passed G bad (Write sector len d s) r × Finds G bad (state_in G r) false)
     unfolding deed
     device_exactly =
-        in_words G bad writing r (Refused Device) tt
+        in_words G bad writing r (Err Device) tt
         (λ P.
         record {
           only = λ e. let w : Spent G bad (state_in G r) inner.st = (subst Ends e (ends P)).0 in (w.seg, w.page, w.found, w.refused);
           whenever = λ h. ap (λ (y : Out). y.answer) (write-spent G bad _ _ _ (state_in G r) h.0 h.1 h.2 h.3);
         })
 
-    pub write_exactly : Exactly ((run G bad (Write sector len d s) r).answer ≡ Moved len)
+    pub write_exactly : Exactly ((run G bad (Write sector len d s) r).answer ≡ Ok len)
         (Passed G bad (Write sector len d s) r × Finds G bad (state_in G r) true)
     unfolding deed
     write_exactly =
-        in_words G bad writing r (Moved len) tt
+        in_words G bad writing r (Ok len) tt
         (λ P.
         record {
           only = λ e.
               let w : Stored G bad (take len d) len (state_in G r) inner.ops = subst Ends e (ends P) in
               (w.seg, w.page, w.found, w.allowed);
           whenever = λ h.
-              ap (λ (y : Out). y.answer) (write-stored G bad _ _ _ (state_in G r) h.0 h.1 h.2 h.3) ∙ ap Moved (long P);
+              ap (λ (y : Out). y.answer) (write-stored G bad _ _ _ (state_in G r) h.0 h.1 h.2 h.3) ∙ ap Ok (long P);
         })
 
 -- ---- the collections
 
 -- From any state the copies go one way: two runs of copies that can go no further end in one state
 abbrev Stops : Geometry → List ℕ → ℕ → State → Type 0
-Stops G bad v st = (at st.tab.lens v ≡ 0) ⊎ ((c : Cause) × ((copy_one G bad v st).answer ≡ Refused c))
+Stops G bad v st = (at st.tab.lens v ≡ 0) ⊎ ((c : Cause) × ((copy_one G bad v st).answer ≡ Err c))
 
 module _ (G : Geometry) (bad : List ℕ) (v : ℕ) where
-  goes_on : {A : Type 0} {m : ℕ} (st : State) → Stops G bad v st → at st.tab.lens v ≢ 0 → (copy_one G bad v st).answer ≡ Moved m → A
+  goes_on : {A : Type 0} {m : ℕ} (st : State) → Stops G bad v st → at st.tab.lens v ≢ 0 → (copy_one G bad v st).answer ≡ Ok m → A
   goes_on st (inl e) n q = absurd (n e)
-  goes_on st (inr h) n q = absurd (let f : ◌≡◌ {A = Answer} (Refused h.0) (Moved _) = sym h.1 ∙ q in let z : ◌≡◌ {A = ℕ} 0 1 = cc in omega arith)
+  goes_on st (inr h) n q = absurd (let f : ◌≡◌ {A = Answer} (Err h.0) (Ok _) = sym h.1 ∙ q in let z : ◌≡◌ {A = ℕ} 0 1 = cc in omega arith)
 
   one_stop : {j k : ℕ} {st a b : State} → Copies G bad v j st a → Stops G bad v a → Copies G bad v k st b → Stops G bad v b → a ≡ b
   one_stop none s none t = refl
@@ -359,8 +359,8 @@ module _ (G : Geometry) (bad : List ℕ) (v : ℕ) where
 
 -- what a copy may answer
 abbrev CopyMay : Answer → Type 0
-CopyMay (Moved m) = Unit {0}
-CopyMay (Refused c) = ByCopy (kind_of c)
+CopyMay (Ok m) = Unit {0}
+CopyMay (Err c) = ByCopy (kind_of c)
 
 copy_may : (G : Geometry) (bad : List ℕ) (v : ℕ) (st : State) → CopyMay (copy_one G bad v st).answer
 copy_may G bad v st =
@@ -371,32 +371,32 @@ copy_may G bad v st =
 
 module _ (G : Geometry) (K : Good G) (bad : List ℕ) (v : ℕ) where
   abbrev Why : State → Answer → Type 0
-  Why st (Moved m) = Unit {0}
-  Why st (Refused c) = CopyWhy G bad st (kind_of c)
+  Why st (Ok m) = Unit {0}
+  Why st (Err c) = CopyWhy G bad st (kind_of c)
 
   -- the write that a copy is
   abbrev copying : State → Out
   copying st = let l = last_of G v st.tab in write_page G bad l 0 (whole G st l) st
 
   why_of : (st : State) (a : Answer) → WriteEnds G bad (whole G st (last_of G v st.tab)) st (copying st).st (copying st).ops a → Why st (copy_answer a)
-  why_of st (Moved m) w = tt
-  why_of st (Refused NoRoom) w = w.0.none
-  why_of st (Refused Device) w = (w.0.seg, w.0.page, w.0.found, w.0.refused)
-  why_of st (Refused Wrong) w = absurd w
-  why_of st (Refused Unsound) w = absurd w
-  why_of st (Refused Unmapped) w = absurd w
-  why_of st (Refused CopyNoRoom) w = absurd w
-  why_of st (Refused CopyDevice) w = absurd w
-  why_of st (Refused Erase) w = absurd w
-  why_of st (Refused (Reason r)) w = absurd w
+  why_of st (Ok m) w = tt
+  why_of st (Err NoRoom) w = w.0.none
+  why_of st (Err Device) w = (w.0.seg, w.0.page, w.0.found, w.0.refused)
+  why_of st (Err Wrong) w = absurd w
+  why_of st (Err Unsound) w = absurd w
+  why_of st (Err Unmapped) w = absurd w
+  why_of st (Err CopyNoRoom) w = absurd w
+  why_of st (Err CopyDevice) w = absurd w
+  why_of st (Err Erase) w = absurd w
+  why_of st (Err (Reason r)) w = absurd w
 
   copy_why : (st : State) → Counted G st.tab → Why st (copy_one G bad v st).answer
   copy_why st S = why_of st (copying st).answer (write_ends G K bad (last_of G v st.tab) 0 (whole G st (last_of G v st.tab)) st S)
 
-  copy_none : (st : State) → Counted G st.tab → NoneFree G bad st.tab → (copy_one G bad v st).answer ≡ Refused CopyNoRoom
+  copy_none : (st : State) → Counted G st.tab → NoneFree G bad st.tab → (copy_one G bad v st).answer ≡ Err CopyNoRoom
   copy_none st S n = ap (λ (o : Out). copy_answer o.answer) (write_none G bad _ _ _ st (nothing_free G K bad st.tab S n))
 
-  copy_refused : (st : State) → Finds G bad st false → (copy_one G bad v st).answer ≡ Refused CopyDevice
+  copy_refused : (st : State) → Finds G bad st false → (copy_one G bad v st).answer ≡ Err CopyDevice
   copy_refused st h = ap (λ (o : Out). copy_answer o.answer) (write-spent G bad _ _ _ st h.0 h.1 h.2 h.3)
 
   -- finished copies leave sound tables
@@ -440,26 +440,26 @@ module _ (G : Geometry) (K : Good G) (bad : List ℕ) (st : State) (S : Counted 
     way = subst Way (sym (ap (λ (y : Out). y.answer) collect_is)) (go d.answer D.end)
       where
         go : (a : Answer) → DrainEnd G bad v D.here d.st a → Way (go_on a (out d.st a d.ops) (λ st'. finish_of G v st')).answer
-        go (Moved m) e = inl (e.1, ap (λ z. (finish_of G v z).answer) (sym e.0))
-        go (Refused c) e = inr (e.2, e.1, tt)
+        go (Ok m) e = inl (e.1, ap (λ z. (finish_of G v z).answer) (sym e.0))
+        go (Err c) e = inr (e.2, e.1, tt)
 
     halted : (a : Answer) → Way a → Stops G bad v D.here
-    halted (Moved m) (inl h) = inl h.0
-    halted (Moved m) (inr h) = absurd h.2
-    halted (Refused c) (inl h) = inl h.0
-    halted (Refused c) (inr h) = inr (c, h.1)
+    halted (Ok m) (inl h) = inl h.0
+    halted (Ok m) (inr h) = absurd h.2
+    halted (Err c) (inl h) = inl h.0
+    halted (Err c) (inr h) = inr (c, h.1)
 
     same_here : {k : ℕ} (here : State) → Copies G bad v k st₁ here → Stops G bad v here → here ≡ D.here
     same_here here h s = one_stop G bad v h s D.copies (halted (collect G bad st).answer way)
 
     -- an erase answers 0 or 5
-    finish_yes : (z : State) → may_erase G v z.flash ≡ true → (finish_of G v z).answer ≡ Moved 0
+    finish_yes : (z : State) → may_erase G v z.flash ≡ true → (finish_of G v z).answer ≡ Ok 0
     finish_yes z e = ap (λ (y : Out). y.answer) (finish-done G v z e)
 
-    finish_no : (z : State) → may_erase G v z.flash ≡ false → (finish_of G v z).answer ≡ Refused Erase
+    finish_no : (z : State) → may_erase G v z.flash ≡ false → (finish_of G v z).answer ≡ Err Erase
     finish_no z e = ap (λ (y : Out). y.answer) (finish-refused G v z e)
 
-    fails_so : (c : Cause) → (copy_one G bad v D.here).answer ≡ Refused c → at D.here.tab.lens v ≢ 0 → CopyFails G bad st c
+    fails_so : (c : Cause) → (copy_one G bad v D.here).answer ≡ Err c → at D.here.tab.lens v ≢ 0 → CopyFails G bad st c
     fails_so c e n =
         record {
           some = some;
@@ -472,16 +472,16 @@ module _ (G : Geometry) (K : Good G) (bad : List ℕ) (st : State) (S : Counted 
 
     -- a copy is refused for room or at the device, or is done
     copied_as : (a : Answer) → CopyMay a → (copy_one G bad v D.here).answer ≡ a → IsRefused a → at D.here.tab.lens v ≢ 0 → PassWhen G bad st a
-    copied_as (Moved m) p e i n = absurd i
-    copied_as (Refused CopyNoRoom) p e i n = fails_so CopyNoRoom e n
-    copied_as (Refused CopyDevice) p e i n = fails_so CopyDevice e n
-    copied_as (Refused Erase) p e i n = absurd p
-    copied_as (Refused Wrong) p e i n = absurd p
-    copied_as (Refused Unsound) p e i n = absurd p
-    copied_as (Refused Unmapped) p e i n = absurd p
-    copied_as (Refused NoRoom) p e i n = absurd p
-    copied_as (Refused Device) p e i n = absurd p
-    copied_as (Refused (Reason r)) p e i n = absurd p
+    copied_as (Ok m) p e i n = absurd i
+    copied_as (Err CopyNoRoom) p e i n = fails_so CopyNoRoom e n
+    copied_as (Err CopyDevice) p e i n = fails_so CopyDevice e n
+    copied_as (Err Erase) p e i n = absurd p
+    copied_as (Err Wrong) p e i n = absurd p
+    copied_as (Err Unsound) p e i n = absurd p
+    copied_as (Err Unmapped) p e i n = absurd p
+    copied_as (Err NoRoom) p e i n = absurd p
+    copied_as (Err Device) p e i n = absurd p
+    copied_as (Err (Reason r)) p e i n = absurd p
 
     when_some : (a : Answer) → Way a → PassWhen G bad st a
     when_some a (inr h) = copied_as a (subst CopyMay h.1 (copy_may G bad v D.here)) h.1 h.2 h.0
@@ -496,13 +496,13 @@ module _ (G : Geometry) (K : Good G) (bad : List ℕ) (st : State) (S : Counted 
             (record { some = some; done = D.done; here = D.here; copies = D.copies; emptied = h.0; erase = e })
 
     -- and back
-    fails_back : (c : Cause) (X : CopyFails G bad st c) → (copy_one G bad v X.here).answer ≡ Refused c → (collect G bad st).answer ≡ Refused c
+    fails_back : (c : Cause) (X : CopyFails G bad st c) → (copy_one G bad v X.here).answer ≡ Err c → (collect G bad st).answer ≡ Err c
     fails_back c X q = go way
       where
         e : X.here ≡ D.here
         e = same_here X.here X.copies (inr (c, q))
 
-        go : Way (collect G bad st).answer → (collect G bad st).answer ≡ Refused c
+        go : Way (collect G bad st).answer → (collect G bad st).answer ≡ Err c
         go (inl h) = absurd (X.more (ap (λ z. at z.tab.lens v) e ∙ h.0))
         go (inr h) = sym h.1 ∙ ap (λ z. (copy_one G bad v z).answer) (sym e) ∙ q
 
@@ -522,7 +522,7 @@ module _ (G : Geometry) (K : Good G) (bad : List ℕ) (st : State) (S : Counted 
     erases_here : (b : Bool) → (X : AllCopied G bad st b) → may_erase G v D.here.flash ≡ b
     erases_here b X = ap (λ z. may_erase G v z.flash) (sym (same_here X.here X.copies (inl X.emptied))) ∙ X.erase
 
-  collect-empty : st.tab.queued ≡ 0 → (collect G bad st).answer ≡ Moved 0
+  collect-empty : st.tab.queued ≡ 0 → (collect G bad st).answer ≡ Ok 0
   collect-empty e = ap (λ (y : Out). y.answer) (collect_none G bad st e)
 
   pass_only : PassWhen G bad st (collect G bad st).answer
@@ -533,17 +533,17 @@ module _ (G : Geometry) (K : Good G) (bad : List ℕ) (st : State) (S : Counted 
       go (inr n) = when_some n (collect G bad st).answer (way n)
 
   pass_back : (a : Answer) → PassWhen G bad st a → (collect G bad st).answer ≡ a
-  pass_back (Moved m) (z, inl e) = collect-empty e ∙ ap Moved (sym z)
-  pass_back (Moved m) (z, inr X) = copied_back X.some true X ∙ finish_yes X.some (D X.some).here (erases_here X.some true X) ∙ ap Moved (sym z)
-  pass_back (Refused CopyNoRoom) X = fails_back X.some CopyNoRoom X (copy_none G K bad _ X.here (sound_there X.some X.copies) X.why)
-  pass_back (Refused CopyDevice) X = fails_back X.some CopyDevice X (copy_refused G K bad _ X.here X.why)
-  pass_back (Refused Erase) X = copied_back X.some false X ∙ finish_no X.some (D X.some).here (erases_here X.some false X)
-  pass_back (Refused Wrong) X = absurd X
-  pass_back (Refused Unsound) X = absurd X
-  pass_back (Refused Unmapped) X = absurd X
-  pass_back (Refused NoRoom) X = absurd X
-  pass_back (Refused Device) X = absurd X
-  pass_back (Refused (Reason r)) X = absurd X
+  pass_back (Ok m) (z, inl e) = collect-empty e ∙ ap Ok (sym z)
+  pass_back (Ok m) (z, inr X) = copied_back X.some true X ∙ finish_yes X.some (D X.some).here (erases_here X.some true X) ∙ ap Ok (sym z)
+  pass_back (Err CopyNoRoom) X = fails_back X.some CopyNoRoom X (copy_none G K bad _ X.here (sound_there X.some X.copies) X.why)
+  pass_back (Err CopyDevice) X = fails_back X.some CopyDevice X (copy_refused G K bad _ X.here X.why)
+  pass_back (Err Erase) X = copied_back X.some false X ∙ finish_no X.some (D X.some).here (erases_here X.some false X)
+  pass_back (Err Wrong) X = absurd X
+  pass_back (Err Unsound) X = absurd X
+  pass_back (Err Unmapped) X = absurd X
+  pass_back (Err NoRoom) X = absurd X
+  pass_back (Err Device) X = absurd X
+  pass_back (Err (Reason r)) X = absurd X
 
   pub pass_exactly : (a : Answer) → Exactly ((collect G bad st).answer ≡ a) (PassWhen G bad st a)
   pass_exactly a = record { only = λ e. subst (PassWhen G bad st) e pass_only; whenever = pass_back a }
@@ -557,17 +557,17 @@ module _ (G : Geometry) (bad : List ℕ) where
     unfolding collect_more
     more_is = refl
 
-    more_refused : {e : Cause} → (collect G bad st).answer ≡ Refused e → (collect_more G bad (suc m) c st).answer ≡ Refused e
+    more_refused : {e : Cause} → (collect G bad st).answer ≡ Err e → (collect_more G bad (suc m) c st).answer ≡ Err e
     more_refused {e} q =
         ap (λ (y : Out). y.answer) more_is ∙ ap (λ a. (go_on a (collect G bad st) rest).answer) q ∙ q
 
-    more_on : {j : ℕ} → (collect G bad st).answer ≡ Moved j → (collect_more G bad (suc m) c st).answer ≡ (rest (collect G bad st).st).answer
+    more_on : {j : ℕ} → (collect G bad st).answer ≡ Ok j → (collect_more G bad (suc m) c st).answer ≡ (rest (collect G bad st).st).answer
     more_on q = ap (λ (y : Out). y.answer) more_is ∙ ap (λ a. (go_on a (collect G bad st) rest).answer) q
 
-    more_ended : {j : ℕ} → (collect G bad st).answer ≡ Moved j → (collect G bad st).st.tab.queued ≡ 0 → (collect_more G bad (suc m) c st).answer ≡ Moved c
+    more_ended : {j : ℕ} → (collect G bad st).answer ≡ Ok j → (collect G bad st).st.tab.queued ≡ 0 → (collect_more G bad (suc m) c st).answer ≡ Ok c
     more_ended q e = more_on q ∙ ap (λ b. (cond b (finish c (collect G bad st).st) (collect_more G bad m (suc c) (collect G bad st).st)).answer) (eq-eqb _ _ e)
 
-    more_next : {j : ℕ} → (collect G bad st).answer ≡ Moved j → (collect G bad st).st.tab.queued ≢ 0
+    more_next : {j : ℕ} → (collect G bad st).answer ≡ Ok j → (collect G bad st).st.tab.queued ≢ 0
         → (collect_more G bad (suc m) c st).answer ≡ (collect_more G bad m (suc c) (collect G bad st).st).answer
     more_next q n = more_on q ∙ ap (λ b. (cond b (finish c (collect G bad st).st) (collect_more G bad m (suc c) (collect G bad st).st)).answer) (ne_eqb _ _ n)
 
@@ -575,8 +575,8 @@ module _ (G : Geometry) (bad : List ℕ) where
 module _ (G : Geometry) (K : Good G) (bad : List ℕ) where
   -- with c counted before
   abbrev MoreWhen : ℕ → ℕ → State → Answer → Type 0
-  MoreWhen m c st (Moved x) = (k : ℕ) × (x ≡ c + k) × Counts G bad m st k
-  MoreWhen m c st (Refused e) = PassFails G bad m st e
+  MoreWhen m c st (Ok x) = (k : ℕ) × (x ≡ c + k) × Counts G bad m st k
+  MoreWhen m c st (Err e) = PassFails G bad m st e
 
   more_only : (m c : ℕ) (st : State) → Counted G st.tab → Fit G st.flash → MoreWhen m c st (collect_more G bad m c st).answer
   unfolding collect_more
@@ -589,8 +589,8 @@ module _ (G : Geometry) (K : Good G) (bad : List ℕ) where
       after : State
       after = (collect G bad st).st
 
-      lift : {j : ℕ} → (collect G bad st).answer ≡ Moved j → after.tab.queued ≢ 0 → (a : Answer) → MoreWhen m (suc c) after a → MoreWhen (suc m) c st a
-      lift q n (Moved x) h = (
+      lift : {j : ℕ} → (collect G bad st).answer ≡ Ok j → after.tab.queued ≢ 0 → (a : Answer) → MoreWhen m (suc c) after a → MoreWhen (suc m) c st a
+      lift q n (Ok x) h = (
         suc h.0,
         omega (arith, h.1),
         record { here = h.2.here; ops = _; passes = pass q n h.2.passes; end = raise h.2.end },
@@ -599,10 +599,10 @@ module _ (G : Geometry) (K : Good G) (bad : List ℕ) where
           raise : (h.0 ≡ m) ⊎ ((h.0 < m) × LastPass G bad h.2.here) → (suc h.0 ≡ suc m) ⊎ ((suc h.0 < suc m) × LastPass G bad h.2.here)
           raise (inl e) = inl (ap suc e)
           raise (inr p) = inr (omega (arith, p.0), p.1)
-      lift q n (Refused e) h =
+      lift q n (Err e) h =
           record { count = suc h.count; here = h.here; ops = _; passes = pass q n h.passes; fewer = omega (arith, h.fewer); refused = h.refused }
 
-      next : {j : ℕ} → (collect G bad st).answer ≡ Moved j → (b : Bool) → eqb after.tab.queued 0 ≡ b
+      next : {j : ℕ} → (collect G bad st).answer ≡ Ok j → (b : Bool) → eqb after.tab.queued 0 ≡ b
           → MoreWhen m (suc c) after (collect_more G bad m (suc c) after).answer
           → MoreWhen (suc m) c st (cond b (finish c after) (collect_more G bad m (suc c) after)).answer
       next {j} q true e ih = (
@@ -612,57 +612,57 @@ module _ (G : Geometry) (K : Good G) (bad : List ℕ) where
           here = st;
           ops = [];
           passes = start;
-          end = inr (omega arith, record { answer = (refl, ((pass_exactly G K bad st S F (Moved j)).only q).1); queue_empty = eqb-true _ _ e });
+          end = inr (omega arith, record { answer = (refl, ((pass_exactly G K bad st S F (Ok j)).only q).1); queue_empty = eqb-true _ _ e });
         },
       )
       next q false e ih = lift q (eqb-false _ _ e) (collect_more G bad m (suc c) after).answer ih
 
       go : (a : Answer) → (collect G bad st).answer ≡ a → MoreWhen m (suc c) after (collect_more G bad m (suc c) after).answer
           → MoreWhen (suc m) c st (go_on a (collect G bad st) (rest G bad m c st)).answer
-      go (Moved j) q ih = next q (eqb after.tab.queued 0) refl ih
-      go (Refused e) q ih =
+      go (Ok j) q ih = next q (eqb after.tab.queued 0) refl ih
+      go (Err e) q ih =
           subst (MoreWhen (suc m) c st) (sym q)
-          (record { count = 0; here = st; ops = []; passes = start; fewer = omega arith; refused = (pass_exactly G K bad st S F (Refused e)).only q })
+          (record { count = 0; here = st; ops = []; passes = start; fewer = omega arith; refused = (pass_exactly G K bad st S F (Err e)).only q })
 
   fails_at : {k : ℕ} {st here : State} {ops : List Op} → Passes G bad k st here ops → Counted G st.tab → Fit G st.flash
-      → (m c : ℕ) → k < m → (e : Cause) → PassWhen G bad here (Refused e) → (collect_more G bad m c st).answer ≡ Refused e
+      → (m c : ℕ) → k < m → (e : Cause) → PassWhen G bad here (Err e) → (collect_more G bad m c st).answer ≡ Err e
   fails_at start S F zero c h e q = absurd (omega arith)
-  fails_at {st = st} start S F (suc m) c h e q = more_refused G bad m c st ((pass_exactly G K bad st S F (Refused e)).whenever q)
+  fails_at {st = st} start S F (suc m) c h e q = more_refused G bad m c st ((pass_exactly G K bad st S F (Err e)).whenever q)
   fails_at (pass p n i) S F zero c h e q = absurd (omega arith)
   fails_at {st = st} (pass p n i) S F (suc m) c h e q =
       let C : Kept G st (collect G bad st) = collected G K bad st S F in
       more_next G bad m c st p n ∙ fails_at i C.sound C.fit m (suc c) (omega arith) e q
 
   counts_to : {k : ℕ} {st here : State} {ops : List Op} → Passes G bad k st here ops → Counted G st.tab → Fit G st.flash
-      → (m c : ℕ) → (k ≡ m) ⊎ ((k < m) × LastPass G bad here) → (collect_more G bad m c st).answer ≡ Moved (c + k)
+      → (m c : ℕ) → (k ≡ m) ⊎ ((k < m) × LastPass G bad here) → (collect_more G bad m c st).answer ≡ Ok (c + k)
   unfolding collect_more
-  counts_to start S F zero c h = let e : c ≡ c + 0 = omega arith in ap Moved e
+  counts_to start S F zero c h = let e : c ≡ c + 0 = omega arith in ap Ok e
   counts_to start S F (suc m) c (inl h) = absurd (omega arith)
   counts_to {st = st} start S F (suc m) c (inr h) =
       let e : c ≡ c + 0 = omega arith in
-      more_ended G bad m c st ((pass_exactly G K bad st S F (Moved 0)).whenever h.1.answer) h.1.queue_empty ∙ ap Moved e
+      more_ended G bad m c st ((pass_exactly G K bad st S F (Ok 0)).whenever h.1.answer) h.1.queue_empty ∙ ap Ok e
   counts_to (pass p n i) S F zero c (inl h) = absurd (omega arith)
   counts_to (pass p n i) S F zero c (inr h) = absurd (omega (arith, h.0))
   counts_to {st = st} (pass {k} p n i) S F (suc m) c (inl h) =
       let C : Kept G st (collect G bad st) = collected G K bad st S F in
       let e : suc c + k ≡ c + suc k = omega arith in
-      more_next G bad m c st p n ∙ counts_to i C.sound C.fit m (suc c) (inl (omega arith)) ∙ ap Moved e
+      more_next G bad m c st p n ∙ counts_to i C.sound C.fit m (suc c) (inl (omega arith)) ∙ ap Ok e
   counts_to {st = st} (pass {k} p n i) S F (suc m) c (inr h) =
       let C : Kept G st (collect G bad st) = collected G K bad st S F in
       let e : suc c + k ≡ c + suc k = omega arith in
-      more_next G bad m c st p n ∙ counts_to i C.sound C.fit m (suc c) (inr (omega (arith, h.0), h.1)) ∙ ap Moved e
+      more_next G bad m c st p n ∙ counts_to i C.sound C.fit m (suc c) (inr (omega (arith, h.0), h.1)) ∙ ap Ok e
 
   more_exactly : (m : ℕ) (st : State) → Counted G st.tab → Fit G st.flash → (a : Answer)
       → Exactly ((collect_more G bad m 0 st).answer ≡ a) (ListWhen G bad m st a)
   more_exactly m st S F a = record { only = λ e. plain a (subst (MoreWhen m 0 st) e (more_only m 0 st S F)); whenever = back_to a }
     where
       plain : (a : Answer) → MoreWhen m 0 st a → ListWhen G bad m st a
-      plain (Moved x) h = let e : h.0 ≡ x = omega (arith, h.1) in subst (Counts G bad m st) e h.2
-      plain (Refused c) h = h
+      plain (Ok x) h = let e : h.0 ≡ x = omega (arith, h.1) in subst (Counts G bad m st) e h.2
+      plain (Err c) h = h
 
       back_to : (a : Answer) → ListWhen G bad m st a → (collect_more G bad m 0 st).answer ≡ a
-      back_to (Moved x) h = let e : 0 + x ≡ x = omega arith in counts_to h.passes S F m 0 h.end ∙ ap Moved e
-      back_to (Refused c) h = fails_at h.passes S F m 0 h.fewer c h.refused
+      back_to (Ok x) h = let e : 0 + x ≡ x = omega arith in counts_to h.passes S F m 0 h.end ∙ ap Ok e
+      back_to (Err c) h = fails_at h.passes S F m 0 h.fewer c h.refused
 
 module _ (G : Geometry) (bad : List ℕ) where
   -- at the entries: every answer but 22 and 117
@@ -732,23 +732,23 @@ module _ (G : Geometry) (bad : List ℕ) where
   write_only : (sector len : ℕ) (d : List ℕ) (s : List (List ℕ)) (r : Recorder) → Passed G bad (Write sector len d s) r → (a : Answer)
       → WriteEnds G bad (take len d) (state_in G r) (inner G bad sector len d s r).st (inner G bad sector len d s r).ops a
       → DeedWhen G bad (Write sector len d s) r a
-  write_only sector len d s r P (Moved m) w = inr (inr ((w.seg, w.page, w.found, w.allowed), ap Moved (w.moved ∙ long G bad sector len d s r P)))
-  write_only sector len d s r P (Refused NoRoom) w = inl (w.0.none, refl)
-  write_only sector len d s r P (Refused Device) w = inr (inl ((w.0.seg, w.0.page, w.0.found, w.0.refused), refl))
-  write_only sector len d s r P (Refused Wrong) w = absurd w
-  write_only sector len d s r P (Refused Unsound) w = absurd w
-  write_only sector len d s r P (Refused Unmapped) w = absurd w
-  write_only sector len d s r P (Refused CopyNoRoom) w = absurd w
-  write_only sector len d s r P (Refused CopyDevice) w = absurd w
-  write_only sector len d s r P (Refused Erase) w = absurd w
-  write_only sector len d s r P (Refused (Reason k)) w = absurd w
+  write_only sector len d s r P (Ok m) w = inr (inr ((w.seg, w.page, w.found, w.allowed), ap Ok (w.moved ∙ long G bad sector len d s r P)))
+  write_only sector len d s r P (Err NoRoom) w = inl (w.0.none, refl)
+  write_only sector len d s r P (Err Device) w = inr (inl ((w.0.seg, w.0.page, w.0.found, w.0.refused), refl))
+  write_only sector len d s r P (Err Wrong) w = absurd w
+  write_only sector len d s r P (Err Unsound) w = absurd w
+  write_only sector len d s r P (Err Unmapped) w = absurd w
+  write_only sector len d s r P (Err CopyNoRoom) w = absurd w
+  write_only sector len d s r P (Err CopyDevice) w = absurd w
+  write_only sector len d s r P (Err Erase) w = absurd w
+  write_only sector len d s r P (Err (Reason k)) w = absurd w
 
   plain_exactly : (c : Call) (r : Recorder) (a : Answer) → Plain G bad a → Exactly ((run G bad c r).answer ≡ a) (Passed G bad c r × DeedWhen G bad c r a)
   unfolding deed
   plain_exactly Format r a p =
       in_words G bad Format r a p (λ _. record { only = λ e. sym e ∙ formats_all G bad G.n 0 (state_in G r); whenever = λ e. formats_all G bad G.n 0 (state_in G r) ∙ sym e })
-  plain_exactly Open r a p = in_words G bad Open r a p (λ _. same_answer (Moved 0) a)
-  plain_exactly (Encode b s) r a p = in_words G bad (Encode b s) r a p (λ _. same_answer (Moved (file_size G)) a)
+  plain_exactly Open r a p = in_words G bad Open r a p (λ _. same_answer (Ok 0) a)
+  plain_exactly (Encode b s) r a p = in_words G bad (Encode b s) r a p (λ _. same_answer (Ok (file_size G)) a)
   plain_exactly (Read sector len o s) r a p =
       in_words G bad (Read sector len o s) r a p
       (λ P.
@@ -794,13 +794,13 @@ module _ (G : Geometry) (bad : List ℕ) where
       there P (inr h) = (reason_exactly G bad q b s r (reason_of G b)).whenever (P, (refl, h.0)) ∙ sym h.1
 
   pub answers_of : (c : Call) (r : Recorder) (a : Answer) → Exactly ((run G bad c r).answer ≡ a) (When G bad c r a)
-  answers_of c r (Refused Wrong) = wrong_exactly G bad c r
-  answers_of c r (Refused Unsound) = unsound_exactly G bad c r
-  answers_of c r (Moved m) = plain_exactly c r (Moved m) tt
-  answers_of c r (Refused Unmapped) = plain_exactly c r (Refused Unmapped) tt
-  answers_of c r (Refused NoRoom) = plain_exactly c r (Refused NoRoom) tt
-  answers_of c r (Refused Device) = plain_exactly c r (Refused Device) tt
-  answers_of c r (Refused CopyNoRoom) = plain_exactly c r (Refused CopyNoRoom) tt
-  answers_of c r (Refused CopyDevice) = plain_exactly c r (Refused CopyDevice) tt
-  answers_of c r (Refused Erase) = plain_exactly c r (Refused Erase) tt
-  answers_of c r (Refused (Reason k)) = plain_exactly c r (Refused (Reason k)) tt
+  answers_of c r (Err Wrong) = wrong_exactly G bad c r
+  answers_of c r (Err Unsound) = unsound_exactly G bad c r
+  answers_of c r (Ok m) = plain_exactly c r (Ok m) tt
+  answers_of c r (Err Unmapped) = plain_exactly c r (Err Unmapped) tt
+  answers_of c r (Err NoRoom) = plain_exactly c r (Err NoRoom) tt
+  answers_of c r (Err Device) = plain_exactly c r (Err Device) tt
+  answers_of c r (Err CopyNoRoom) = plain_exactly c r (Err CopyNoRoom) tt
+  answers_of c r (Err CopyDevice) = plain_exactly c r (Err CopyDevice) tt
+  answers_of c r (Err Erase) = plain_exactly c r (Err Erase) tt
+  answers_of c r (Err (Reason k)) = plain_exactly c r (Err (Reason k)) tt

@@ -13,8 +13,8 @@ use lib.Seq.{get_or-set_same, get_or-set_other, length-take-le}
 use borrow.Author.Tests.{eqb-false, ltb-true, leb-true}
 use Rattle.model.specs.Lists.{on_slot, splice, total, zeros}
 use Rattle.model.specs.declared.Geometry.{Geometry}
-use Rattle.model.specs.declared.Answer.{Answer}
-use Rattle.model.specs.declared.Answer.TheVariants.{Moved, Refused}
+use Rattle.model.specs.Numbers.{Answer}
+use Rattle.model.specs.Numbers.{Ok, Err}
 use Rattle.model.specs.declared.Cause.TheVariants.{Erase}
 use Rattle.model.specs.Numbers.{Good, empty, addr, flat, seg_of, page_of, logical_page, offset}
 use Rattle.model.specs.Tables.{Tables, at, word_of, tab_words, pages}
@@ -144,8 +144,8 @@ module _ (G : Geometry) (K : Good G) (bad : List ℕ) where
             one = copy_marked st S F some h
 
             next : (a : Answer) → MarkedAll G (go_on a (copy_one G bad v st) (λ st'. drain G bad b v st')).st
-            next (Moved m) = ih (copy_one G bad v st).st C.sound C.fit one
-            next (Refused c) = one
+            next (Ok m) = ih (copy_one G bad v st).st C.sound C.fit one
+            next (Err c) = one
 
     -- an erase of a segment that holds no mapped page
     finish_marked : (st : State) → Counted G st.tab → Fit G st.flash → at st.tab.lens v ≡ 0 → MarkedAll G st → MarkedAll G (finish_of G v st).st
@@ -203,8 +203,8 @@ module _ (G : Geometry) (K : Good G) (bad : List ℕ) where
           drained = drain_marked v seg G.p st₁ (taken_sound G st.tab S some) F h
 
           then : (a : Answer) → DrainEnd G bad (victim st.tab) D.here d.st a → MarkedAll G (go_on a d (λ st'. finish_of G (victim st.tab) st')).st
-          then (Refused c) w = drained
-          then (Moved m) w =
+          then (Err c) w = drained
+          then (Ok m) w =
               finish_marked v seg d.st (subst (λ z. Counted G z.tab) (sym w.0) D.sound) (subst (λ z. Fit G z.flash) (sym w.0) D.fit)
               (ap (λ z. at z.tab.lens v) w.0 ∙ w.1)
               drained
@@ -227,8 +227,8 @@ module _ (G : Geometry) (K : Good G) (bad : List ℕ) where
 
       go : (a : Answer) → MarkedAll G (collect_more G bad m (suc c) (collect G bad st).st).st
           → MarkedAll G (go_on a (collect G bad st) (λ t. cond (eqb t.tab.queued 0) (finish c t) (collect_more G bad m (suc c) t))).st
-      go (Moved k) I = next (eqb (collect G bad st).st.tab.queued 0) I
-      go (Refused r) I = one
+      go (Ok k) I = next (eqb (collect G bad st).st.tab.queued 0) I
+      go (Err r) I = one
 
   threshold_marked : (t m : ℕ) (st : State) → Counted G st.tab → Fit G st.flash → MarkedAll G st → MarkedAll G (collect_threshold G bad t m st).st
   unfolding collect_threshold collect_list
@@ -282,12 +282,12 @@ module _ (G : Geometry) (bad : List ℕ) where
   stayed_marked x o h s = subst Marks (sym s.is) h
 
   -- an opening: whatever the tables and the flash were, if it is accepted
-  pub opening_marked : (r : Recorder) → (run G bad Open r).answer ≡ Moved 0 → MarkedIn G (after G bad Open r)
+  pub opening_marked : (r : Recorder) → (run G bad Open r).answer ≡ Ok 0 → MarkedIn G (after G bad Open r)
   opening_marked r e = go (opened_or G (lent r [] []))
     where
       go : Stayed (lent r [] []) (opening G (lent r [] [])) ⊎ Begun G r (opened G (tab G r).alloc) (opening G (lent r [] [])) → MarkedIn G (after G bad Open r)
       go (inl s) =
-          absurd (let f : Refused s.cause ≡ Moved 0 = sym (ap (λ (y : Outcome). y.answer) s.is) ∙ e in let z : ◌≡◌ {A = ℕ} 0 1 = cc in omega arith)
+          absurd (let f : Err s.cause ≡ Ok 0 = sym (ap (λ (y : Outcome). y.answer) s.is) ∙ e in let z : ◌≡◌ {A = ℕ} 0 1 = cc in omega arith)
       go (inr b) = opened_marked r _ _ b
 
   -- every call but an accepted formatting and an accepted restore keeps it, whatever it is lent and whatever it answers
@@ -321,12 +321,12 @@ module _ (G : Geometry) (bad : List ℕ) where
 
 -- After anything that `Ever` allows, an accepted restore of the checkpoint's file: the pages mapped then are mapped again, and marked still
 pub regained_marked : (G : Geometry) (bad : List ℕ) (r₀ : Recorder) → MarkedIn G r₀
-    → (buffer : List ℕ) (scratch : List (List ℕ)) (n : ℕ) → (run G bad (Encode buffer scratch) r₀).answer ≡ Moved n
+    → (buffer : List ℕ) (scratch : List (List ℕ)) (n : ℕ) → (run G bad (Encode buffer scratch) r₀).answer ≡ Ok n
     → {r : Recorder} → Ever G bad r₀ r → (q : Queueing) (s : List (List ℕ))
-    → (run G bad (Restore q (take n (run G bad (Encode buffer scratch) r₀).left.buffer) s) r).answer ≡ Moved 0
+    → (run G bad (Restore q (take n (run G bad (Encode buffer scratch) r₀).left.buffer) s) r).answer ≡ Ok 0
     → MarkedIn G (after G bad (Restore q (take n (run G bad (Encode buffer scratch) r₀).left.buffer) s) r)
 regained_marked G bad r₀ marked buffer scratch n e {r} h q s z =
-    subst (λ z. (run G bad (Restore q z s) r).answer ≡ Moved 0 → MarkedIn G (after G bad (Restore q z s) r)) (sym E.file) by_file z
+    subst (λ z. (run G bad (Restore q z s) r).answer ≡ Ok 0 → MarkedIn G (after G bad (Restore q z s) r)) (sym E.file) by_file z
   where
     E : Encoded G (lent r₀ buffer scratch) n (run G bad (Encode buffer scratch) r₀).left.buffer
     E = encoded G (lent r₀ buffer scratch) n e
@@ -344,13 +344,13 @@ regained_marked G bad r₀ marked buffer scratch n e {r} h q s z =
         subst (λ a. at r.flash.marks (flat G a) ≢ 0) (sym w)
         (ever G bad r₀ l k (omega (arith, E.counted.page< l k)) (marked l k) h).mark
 
-    by_file : (run G bad (Restore q (sealed G (tab G r₀)) s) r).answer ≡ Moved 0 → MarkedIn G (after G bad (Restore q (sealed G (tab G r₀)) s) r)
+    by_file : (run G bad (Restore q (sealed G (tab G r₀)) s) r).answer ≡ Ok 0 → MarkedIn G (after G bad (Restore q (sealed G (tab G r₀)) s) r)
     by_file e = go (restored_or G q (sealed G (tab G r₀)) (lent r [] s))
       where
         go : Stayed (lent r [] s) (restoring G q (sealed G (tab G r₀)) (lent r [] s)) ⊎ Begun G r (restored_by G q (sealed G (tab G r₀))) (restoring G q (sealed G (tab G r₀)) (lent r [] s))
             → MarkedIn G (after G bad (Restore q (sealed G (tab G r₀)) s) r)
         go (inl y) =
-            absurd (let f : Refused y.cause ≡ Moved 0 = sym (ap (λ (o : Outcome). o.answer) y.is) ∙ e in let z : ◌≡◌ {A = ℕ} 0 1 = cc in omega arith)
+            absurd (let f : Err y.cause ≡ Ok 0 = sym (ap (λ (o : Outcome). o.answer) y.is) ∙ e in let z : ◌≡◌ {A = ℕ} 0 1 = cc in omega arith)
         go (inr y) =
             subst (MarkedIn G) (sym y.unit) (subst (λ t. MarkedAll G (state t r.flash)) (sym (view-packed y.counted.sized)) there)
 
@@ -364,7 +364,7 @@ marked_since {G} {bad} (regains {r₀} {r} h buffer scratch n e v q s z) = regai
 
 -- Demand 3b for such a unit, with no premise on what comes behind the checkpoint but the erases
 pub unit_restores : (G : Geometry) (bad : List ℕ) (r₀ : Recorder) → FromOpening G bad r₀
-    → (buffer : List ℕ) (scratch : List (List ℕ)) (n : ℕ) → (run G bad (Encode buffer scratch) r₀).answer ≡ Moved n
+    → (buffer : List ℕ) (scratch : List (List ℕ)) (n : ℕ) → (run G bad (Encode buffer scratch) r₀).answer ≡ Ok n
     → {r : Recorder} → Ever G bad r₀ r → length r.words ≡ tab_words G → length r.used ≡ pages G
     → (q : Queueing) → GivesBack G bad r₀ (take n (run G bad (Encode buffer scratch) r₀).left.buffer) q r
 unit_restores G bad r₀ u buffer scratch n e h a b = marked_restores G bad r₀ buffer scratch n e (marked_since u) h a b

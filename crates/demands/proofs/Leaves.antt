@@ -11,9 +11,9 @@ use lib.Seq.{length-take-le}
 use borrow.Author.Tests.{eqb-false, ltb-true, ltb-false, leb-true}
 use Rattle.model.specs.Lists.{total}
 use Rattle.model.specs.declared.Geometry.{Geometry}
-use Rattle.model.specs.declared.Answer.{Answer}
+use Rattle.model.specs.Numbers.{Answer}
 use Rattle.model.specs.declared.Cause.{Cause}
-use Rattle.model.specs.declared.Answer.TheVariants.{Moved, Refused}
+use Rattle.model.specs.Numbers.{Ok, Err}
 use Rattle.model.specs.declared.Cause.TheVariants.{Wrong, Unsound, Unmapped, NoRoom, Device, CopyNoRoom, CopyDevice, Erase, Reason}
 use Rattle.model.specs.Numbers.{Good, logical_page, offset}
 use Rattle.model.specs.Causes.{kind_of}
@@ -41,8 +41,8 @@ use Rattle.demands.specs.Left.{Quiet, PassEnds, Earlier, WriteLeft, Row, Leaves}
 -- ---- collections from the list: fewer than m finished passes, each with the queue not empty behind it, and then the pass that was refused
 
 abbrev pub ListEnds : Geometry → List ℕ → ℕ → State → State → List Op → Answer → Type 0
-ListEnds G bad m st st' ops (Moved x) = Unit {0}
-ListEnds G bad m st st' ops (Refused k) = Earlier G bad m k st st' ops
+ListEnds G bad m st st' ops (Ok x) = Unit {0}
+ListEnds G bad m st st' ops (Err k) = Earlier G bad m k st st' ops
 
 module _ (G : Geometry) (K : Good G) (bad : List ℕ) where
   more_ends : (m c : ℕ) (st : State) → Counted G st.tab → Fit G st.flash
@@ -61,10 +61,10 @@ module _ (G : Geometry) (K : Good G) (bad : List ℕ) where
       rest : Out
       rest = collect_more G bad m (suc c) (collect G bad st).st
 
-      more : {k : ℕ} → o.answer ≡ Moved k → o.st.tab.queued ≢ 0 → (a : Answer) → ListEnds G bad m o.st rest.st rest.ops a
+      more : {k : ℕ} → o.answer ≡ Ok k → o.st.tab.queued ≢ 0 → (a : Answer) → ListEnds G bad m o.st rest.st rest.ops a
           → ListEnds G bad (suc m) st rest.st (o.ops ++ rest.ops) a
-      more q n (Moved x) I = tt
-      more q n (Refused x) I =
+      more q n (Ok x) I = tt
+      more q n (Err x) I =
           record {
             count = suc I.count;
             fewer = omega (arith, I.fewer);
@@ -82,7 +82,7 @@ module _ (G : Geometry) (K : Good G) (bad : List ℕ) where
                 };
           }
 
-      next : {k : ℕ} → o.answer ≡ Moved k → (b : Bool) → eqb o.st.tab.queued 0 ≡ b → ListEnds G bad m o.st rest.st rest.ops rest.answer
+      next : {k : ℕ} → o.answer ≡ Ok k → (b : Bool) → eqb o.st.tab.queued 0 ≡ b → ListEnds G bad m o.st rest.st rest.ops rest.answer
           → ListEnds G bad (suc m) st (cond b (finish c o.st) rest).st (o.ops ++ (cond b (finish c o.st) rest).ops) (cond b (finish c o.st) rest).answer
       next q true e I = tt
       next q false e I = more q (eqb-false _ _ e) rest.answer I
@@ -92,8 +92,8 @@ module _ (G : Geometry) (K : Good G) (bad : List ℕ) where
 
       go : (a : Answer) → o.answer ≡ a → PassEnds G bad st o.st o.ops o.answer → ListEnds G bad m o.st rest.st rest.ops rest.answer
           → ListEnds G bad (suc m) st (go_on a o tail).st (go_on a o tail).ops (go_on a o tail).answer
-      go (Moved k) q p I = next q (eqb o.st.tab.queued 0) refl I
-      go (Refused x) q p I =
+      go (Ok k) q p I = next q (eqb o.st.tab.queued 0) refl I
+      go (Err x) q p I =
           subst (ListEnds G bad (suc m) st o.st o.ops) (sym q)
           (record {
             count = 0;
@@ -109,8 +109,8 @@ module _ (G : Geometry) (K : Good G) (bad : List ℕ) where
 
   -- by a threshold: above it nothing runs, and nothing is refused
   abbrev pub BelowEnds : ℕ → ℕ → State → State → List Op → Answer → Type 0
-  BelowEnds t m st st' ops (Moved x) = Unit {0}
-  BelowEnds t m st st' ops (Refused k) = (total st.tab.free ≤ t) × Earlier G bad m k st st' ops
+  BelowEnds t m st st' ops (Ok x) = Unit {0}
+  BelowEnds t m st st' ops (Err k) = (total st.tab.free ≤ t) × Earlier G bad m k st st' ops
 
   threshold_ends : (t m : ℕ) (st : State) → Counted G st.tab → Fit G st.flash
       → BelowEnds t m st (collect_threshold G bad t m st).st (collect_threshold G bad t m st).ops (collect_threshold G bad t m st).answer
@@ -121,8 +121,8 @@ module _ (G : Geometry) (K : Good G) (bad : List ℕ) where
       o = collect_more G bad m 0 st
 
       below : ltb t (total st.tab.free) ≡ false → (a : Answer) → ListEnds G bad m st o.st o.ops a → BelowEnds t m st o.st o.ops a
-      below e (Moved x) h = tt
-      below e (Refused k) h = (ltb-false _ _ e, h)
+      below e (Ok x) h = tt
+      below e (Err k) h = (ltb-false _ _ e, h)
 
       go : (b : Bool) → ltb t (total st.tab.free) ≡ b
           → BelowEnds t m st (cond b (finish 0 st) o).st (cond b (finish 0 st) o).ops (cond b (finish 0 st) o).answer
@@ -132,7 +132,7 @@ module _ (G : Geometry) (K : Good G) (bad : List ℕ) where
 -- ---- every call
 
 -- a write's end, where its refusal is not one of "nothing changed"
-write_left : (G : Geometry) (bad : List ℕ) (k : Cause) (d : List ℕ) (st st' : State) (ops : List Op) → (Quiet (kind_of k) → ⊥) → WriteEnds G bad d st st' ops (Refused k)
+write_left : (G : Geometry) (bad : List ℕ) (k : Cause) (d : List ℕ) (st st' : State) (ops : List Op) → (Quiet (kind_of k) → ⊥) → WriteEnds G bad d st st' ops (Err k)
     → WriteLeft G bad k st st' ops
 write_left G bad Device d st st' ops n w = w
 write_left G bad NoRoom d st st' ops n w = n tt
@@ -148,14 +148,14 @@ module _ (G : Geometry) (bad : List ℕ) where
   -- what the outcome o of a call c that was lent x says of its row, where it is refused with k
   abbrev Loud : Call → Cause → Lent → Outcome → Type 0
   Loud c k x o =
-      o.answer ≡ Refused k
+      o.answer ≡ Err k
       → ((Quiet (kind_of k) → ⊥) → Row G bad c k (state_in G x.unit) (state_in G o.left.unit) o.ops × TablesFit G o.left.unit)
       × (o.left.buffer ≡ x.buffer)
       × (o.left.scratch ≡ x.scratch)
 
   abbrev QuietAnswer : Answer → Type 0
-  QuietAnswer (Moved m) = ⊥
-  QuietAnswer (Refused c) = Quiet (kind_of c)
+  QuietAnswer (Ok m) = ⊥
+  QuietAnswer (Err c) = Quiet (kind_of c)
 
   -- a refusal of a test
   tested : (c : Call) (k : Cause) (x : Lent) (t : Cause) → Quiet (kind_of t) → Loud c k x (refused t x)
@@ -199,7 +199,7 @@ module _ (G : Geometry) (bad : List ℕ) where
   -- a collection of any kind: its inner call keeps the tables sound, and its end is its row
   collecting_loud : (c : Call) (k : Cause) (x : Lent) (o : Out)
       → (Good G → Counted G (tables_of G x) → Fit G x.unit.flash → Kept G (state_of G x) o)
-      → (Good G → Counted G (tables_of G x) → Fit G x.unit.flash → o.answer ≡ Refused k → Row G bad c k (state_of G x) o.st o.ops)
+      → (Good G → Counted G (tables_of G x) → Fit G x.unit.flash → o.answer ≡ Err k → Row G bad c k (state_of G x) o.st o.ops)
       → Loud c k x (collecting G bad x o)
   collecting_loud c k x o keeps ends =
       guarded_by (Loud c k x) _ _ _ _ x _ (tested c k x Wrong tt) (tested c k x Unsound tt)
@@ -209,13 +209,13 @@ module _ (G : Geometry) (bad : List ℕ) where
 
   -- the calls that only test
   abbrev Silent : Answer → Type 0
-  Silent (Moved m) = Unit {0}
-  Silent (Refused c) = Quiet (kind_of c)
+  Silent (Ok m) = Unit {0}
+  Silent (Err c) = Quiet (kind_of c)
 
   abbrev SilentOut : Outcome → Type 0
   SilentOut y = Silent y.answer
 
-  silent_leaves : (c : Call) (r : Recorder) (k : Cause) → Silent (run G bad c r).answer → (run G bad c r).answer ≡ Refused k → Leaves G bad c r k (run G bad c r)
+  silent_leaves : (c : Call) (r : Recorder) (k : Cause) → Silent (run G bad c r).answer → (run G bad c r).answer ≡ Err k → Leaves G bad c r k (run G bad c r)
   silent_leaves c r k s e =
       let q : Quiet (kind_of k) = subst Silent e s in
       let u : (run G bad c r).left ≡ lent_to c r = (stays G bad k q c r e).0 in
@@ -227,7 +227,7 @@ module _ (G : Geometry) (bad : List ℕ) where
       }
 
   loud_leaves : (c : Call) (r : Recorder) (k : Cause) (x : Lent) → lent_to c r ≡ x → Loud c k x (run G bad c r) → x.unit ≡ r
-      → (run G bad c r).answer ≡ Refused k → Leaves G bad c r k (run G bad c r)
+      → (run G bad c r).answer ≡ Err k → Leaves G bad c r k (run G bad c r)
   loud_leaves c r k x l h u e =
       record {
         unchanged = λ q. stays G bad k q c r e;
@@ -236,7 +236,7 @@ module _ (G : Geometry) (bad : List ℕ) where
         scratch = (h e).2 ∙ ap (λ (x : Lent). x.scratch) (sym l);
       }
 
-  pub leaves : (c : Call) (r : Recorder) (k : Cause) → (run G bad c r).answer ≡ Refused k → Leaves G bad c r k (run G bad c r)
+  pub leaves : (c : Call) (r : Recorder) (k : Cause) → (run G bad c r).answer ≡ Err k → Leaves G bad c r k (run G bad c r)
   unfolding formatting opening read encoding restoring collection list_collection threshold_collection collect_list
   leaves Format r k =
       silent_leaves Format r k

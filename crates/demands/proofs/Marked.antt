@@ -12,8 +12,8 @@ use lib.ListN.{length, get_or, set, take, drop, replicate, length-replicate}
 use lib.Seq.{get_or-set_other}
 use Rattle.model.specs.Lists.{slot, on_slot, zeros, blank}
 use Rattle.model.specs.declared.Geometry.{Geometry}
-use Rattle.model.specs.declared.Answer.{Answer}
-use Rattle.model.specs.declared.Answer.TheVariants.{Moved, Refused}
+use Rattle.model.specs.Numbers.{Answer}
+use Rattle.model.specs.Numbers.{Ok, Err}
 use Rattle.model.specs.Numbers.{empty, endless, flat, seg_of, page_of}
 use Rattle.model.specs.Tables.{at, tab_words, pages}
 use Rattle.model.specs.Device.{Flash, flash, Op, Program, EraseSeg, State, state, Out, out, finish, behind, go_on, blanked, burn, programmed, perform_all, format_from, clear_up, may_program, page_at}
@@ -69,8 +69,8 @@ module _ (G : Geometry) (bad : List ℕ) where
   none st a = record { performs = refl; clear = tt }
 
   then : (a : Answer) (f : Flash) (o : Out) (rest : State → Out) → Honest G f o → Honest G o.st.flash (rest o.st) → Honest G f (go_on a o rest)
-  then (Moved m) f o rest A B = honest_behind G f o (rest o.st) A B
-  then (Refused c) f o rest A B = A
+  then (Ok m) f o rest A B = honest_behind G f o (rest o.st) A B
+  then (Err c) f o rest A B = A
 
   write_honest : (l off : ℕ) (d : List ℕ) (st : State) → Honest G st.flash (write_page G bad l off d st)
   unfolding may_program
@@ -96,13 +96,13 @@ module _ (G : Geometry) (bad : List ℕ) where
 
   collect_honest : (st : State) → Honest G st.flash (collect G bad st)
   collect_honest st =
-      collect_by G bad HonestOut (λ c st. none st (Moved c)) copy_honest (λ _ _ h. h) went_honest st (λ _. finish_honest (victim st.tab))
+      collect_by G bad HonestOut (λ c st. none st (Ok c)) copy_honest (λ _ _ h. h) went_honest st (λ _. finish_honest (victim st.tab))
 
   more_honest : (m c : ℕ) (st : State) → Honest G st.flash (collect_more G bad m c st)
-  more_honest = more_by G bad HonestOut (λ c st. none st (Moved c)) copy_honest (λ _ _ h. h) went_honest finish_honest
+  more_honest = more_by G bad HonestOut (λ c st. none st (Ok c)) copy_honest (λ _ _ h. h) went_honest finish_honest
 
   threshold_honest : (t m : ℕ) (st : State) → Honest G st.flash (collect_threshold G bad t m st)
-  threshold_honest = threshold_by G bad HonestOut (λ c st. none st (Moved c)) copy_honest (λ _ _ h. h) went_honest finish_honest
+  threshold_honest = threshold_by G bad HonestOut (λ c st. none st (Ok c)) copy_honest (λ _ _ h. h) went_honest finish_honest
 
   format_clear : (j g : ℕ) (st : State) → Clear G (format_from G j g st).ops st.flash
   unfolding format_from
@@ -268,7 +268,7 @@ module _ (G : Geometry) (bad : List ℕ) (r₀ : Recorder) (l : ℕ) (m : get_or
 
 -- the theorem
 pub marked_restores : (G : Geometry) (bad : List ℕ) (r₀ : Recorder) (buffer : List ℕ) (scratch : List (List ℕ)) (n : ℕ)
-    → (run G bad (Encode buffer scratch) r₀).answer ≡ Moved n
+    → (run G bad (Encode buffer scratch) r₀).answer ≡ Ok n
     → ((l : ℕ) → get_or (map_in G r₀) l empty ≢ empty → at r₀.flash.marks (flat G (get_or (map_in G r₀) l empty)) ≢ 0)
     → {r : Recorder} → Ever G bad r₀ r → length r.words ≡ tab_words G → length r.used ≡ pages G
     → (q : Queueing) → GivesBack G bad r₀ (take n (run G bad (Encode buffer scratch) r₀).left.buffer) q r

@@ -11,8 +11,8 @@ use lib.ListN.{length, drop, length-drop}
 use lib.Seq.{take_at}
 use borrow.Author.Tests.{leb-true, leb-false, ltb-true, ltb-false, eqb-true, eqb-false, eq-eqb}
 use Rattle.model.specs.declared.Geometry.{Geometry}
-use Rattle.model.specs.declared.Found.{Found}
-use Rattle.model.specs.declared.Found.TheVariants.{At, Nothing}
+use Rattle.model.specs.PageMap.{Found}
+use Rattle.model.specs.PageMap.{Some, spot, None}
 use Rattle.model.specs.Numbers.{Good, good?, empty}
 use Rattle.model.specs.Lists.{insert_by, sort_by, occ, all, every, blank, up_to}
 use Rattle.model.specs.Tables.{Tables, tables, at, queue_of}
@@ -205,8 +205,8 @@ module _ (G : Geometry) (used : List ℕ) (g : ℕ) where
     first : (j : ℕ) → k ≤ j → j < x → mark j ≢ 0
 
   abbrev Scanned : ℕ → ℕ → Found → Type 0
-  Scanned k f (At h x) = (h ≡ g) × Clear k f x
-  Scanned k f Nothing = (j : ℕ) → k ≤ j → j < k + f → mark j ≢ 0
+  Scanned k f (Some x) = (x.segment ≡ g) × Clear k f x.page
+  Scanned k f None = (j : ℕ) → k ≤ j → j < k + f → mark j ≢ 0
 
   behind : (k : ℕ) → mark k ≢ 0 → (j : ℕ) → k ≤ j → (k < j → mark j ≢ 0) → mark j ≢ 0
   behind k n j a h = go (same? j k)
@@ -216,7 +216,7 @@ module _ (G : Geometry) (used : List ℕ) (g : ℕ) where
       go (inr m) = h (omega arith)
 
   onward : (k f : ℕ) → mark k ≢ 0 → (r : Found) → Scanned (suc k) f r → Scanned k (suc f) r
-  onward k f n (At h x) c = (
+  onward k f n (Some x) c = (
     c.0,
     record {
       from = omega (arith, c.1.from);
@@ -225,7 +225,7 @@ module _ (G : Geometry) (used : List ℕ) (g : ℕ) where
       first = λ j a b. behind k n j a (λ d. c.1.first j d b);
     },
   )
-  onward k f n Nothing c = λ j a b. behind k n j a (λ d. c j d (omega arith))
+  onward k f n None c = λ j a b. behind k n j a (λ d. c j d (omega arith))
 
   scanned : (k f : ℕ) → Scanned k f (clear_from G used g k f)
   unfolding clear_from
@@ -235,7 +235,7 @@ module _ (G : Geometry) (used : List ℕ) (g : ℕ) where
       rest : Found
       rest = clear_from G used g (suc k) f
 
-      go : (b : Bool) → eqb (mark k) 0 ≡ b → Scanned (suc k) f rest → Scanned k (suc f) (cond b (At g k) rest)
+      go : (b : Bool) → eqb (mark k) 0 ≡ b → Scanned (suc k) f rest → Scanned k (suc f) (cond b (Some (spot g k)) rest)
       go true e ih =
           (refl, record { from = omega arith; below = omega arith; clear = eqb-true (mark k) 0 e; first = λ j a b. absurd (omega arith) })
       go false e ih = onward k f (eqb-false (mark k) 0 e) rest ih
@@ -272,8 +272,8 @@ module _ (G : Geometry) (K : Good G) (bad : List ℕ) (t : Tables) (S : Counted 
   PassedTo i = (j : ℕ) → j < i → PassedOver bad t (looked G t j)
 
   abbrev Walked : Found → Type 0
-  Walked (At g k) = FoundAt G bad t g k
-  Walked Nothing = PassedTo G.n
+  Walked (Some x) = FoundAt G bad t x.segment x.page
+  Walked None = PassedTo G.n
 
   passed_more : (i : ℕ) → PassedTo i → PassedOver bad t (looked G t i) → PassedTo (suc i)
   passed_more i p h j b = go (same? j i)
@@ -292,7 +292,7 @@ module _ (G : Geometry) (K : Good G) (bad : List ℕ) (t : Tables) (S : Counted 
       go (inr n) = inl n
 
   -- a segment with a free page has a clear one
-  some_clear : (g : ℕ) → g < G.n → 0 < at t.free g → Scanned G t.used g 0 G.p Nothing → ⊥
+  some_clear : (g : ℕ) → g < G.n → 0 < at t.free g → Scanned G t.used g 0 G.p None → ⊥
   some_clear g hg h c =
       let j : ℕ = G.p - at t.free g in
       let b : j < G.p = omega (arith, S.free≤ g) in
@@ -324,8 +324,8 @@ module _ (G : Geometry) (K : Good G) (bad : List ℕ) (t : Tables) (S : Counted 
           }
 
       stop : (at bad g ≡ 0) × (0 < at t.free g) → (r : Found) → Scanned G t.used g 0 G.p r → Walked (or_else r rest)
-      stop h (At j x) c = subst (λ y. FoundAt G bad t y x) (sym c.0) (here x h c.1)
-      stop h Nothing c = absurd (some_clear g (mod-lt (t.alloc + i) K.n≥) h.1 c)
+      stop h (Some x) c = subst (λ y. FoundAt G bad t y x.page) (sym c.0) (here x.page h c.1)
+      stop h None c = absurd (some_clear g (mod-lt (t.alloc + i) K.n≥) h.1 c)
 
       may : usable G bad t g ≡ true → (at bad g ≡ 0) × (0 < at t.free g)
       may u =
@@ -338,12 +338,12 @@ module _ (G : Geometry) (K : Good G) (bad : List ℕ) (t : Tables) (S : Counted 
       go false u ih = ih (passed_more i p (unusable g u))
 
   -- a page is found exactly where the walk stops
-  pub find_first : (g k : ℕ) → find G bad t ≡ At g k → FoundAt G bad t g k
+  pub find_first : (g k : ℕ) → find G bad t ≡ Some (spot g k) → FoundAt G bad t g k
   unfolding find
   find_first g k e = subst Walked e (walked G.n 0 (omega arith) (λ j h. absurd (omega arith)))
 
   -- nothing is found exactly when every segment is bad or has no free page
-  pub find_none : find G bad t ≡ Nothing → AllPassed G bad t
+  pub find_none : find G bad t ≡ None → AllPassed G bad t
   find_none e g hg = go (found G K t S bad) (same? (at bad g) 0)
     where
       go : Full G K t S bad (find G bad t) ⊎ Free G K t S bad (find G bad t) → (at bad g ≡ 0) ⊎ (at bad g ≢ 0) → PassedOver bad t g
@@ -351,24 +351,24 @@ module _ (G : Geometry) (K : Good G) (bad : List ℕ) (t : Tables) (S : Counted 
       go (inl f) (inr n) = inl n
       go (inr f) _ = absurd (let z : ◌≡◌ {A = ℕ} 0 1 = cc (f.is, e) in omega arith)
 
-  pub none_find : AllPassed G bad t → find G bad t ≡ Nothing
+  pub none_find : AllPassed G bad t → find G bad t ≡ None
   none_find p = go (found G K t S bad)
     where
       never : (g : ℕ) → at bad g ≡ 0 → 0 < at t.free g → PassedOver bad t g → ⊥
       never g b h (inl n) = n b
       never g b h (inr z) = omega arith
 
-      go : Full G K t S bad (find G bad t) ⊎ Free G K t S bad (find G bad t) → find G bad t ≡ Nothing
+      go : Full G K t S bad (find G bad t) ⊎ Free G K t S bad (find G bad t) → find G bad t ≡ None
       go (inl f) = f.is
       go (inr f) = absurd (never f.seg f.good f.next.some_free (p f.seg f.next.seg))
 
   inside : (g k : ℕ) → FoundAt G bad t g k → g < G.n
   inside g k A = subst (λ x. x < G.n) (sym A.segment) (mod-lt (t.alloc + A.step) K.n≥)
 
-  pub first_find : (g k : ℕ) → FoundAt G bad t g k → find G bad t ≡ At g k
+  pub first_find : (g k : ℕ) → FoundAt G bad t g k → find G bad t ≡ Some (spot g k)
   first_find g k A = go (found G K t S bad)
     where
-      go : Full G K t S bad (find G bad t) ⊎ Free G K t S bad (find G bad t) → find G bad t ≡ At g k
+      go : Full G K t S bad (find G bad t) ⊎ Free G K t S bad (find G bad t) → find G bad t ≡ Some (spot g k)
       go (inl f) = absurd (omega (arith, A.some, f.full g (inside g k A) A.good))
       go (inr f) =
           let q : (g ≡ f.seg) × (k ≡ G.p - at t.free f.seg) = one_found G bad t _ _ _ _ A (find_first _ _ f.is) in

@@ -10,7 +10,7 @@ use lib.ListN.{take, replicate}
 use Rattle.crc32.specs.Crc32.{plus, add, among, powers, low, remainder, bits_of, bits, digit, number as value_of, dividend, crc32}
 use Rattle.model.specs.declared.Geometry.{Geometry}
 use Rattle.model.specs.declared.Numbers.TheVariants.{Old, New}
-use Rattle.model.specs.declared.Answer.TheVariants.{Moved, Refused}
+use Rattle.model.specs.Numbers.{Ok, Err}
 use Rattle.model.specs.declared.Cause.TheVariants.{Wrong, Unmapped, NoRoom, Device, CopyNoRoom, CopyDevice, Erase, Reason}
 use Rattle.model.specs.Lists.{without, push_front, insert_by, sort_by, splice, total, occ, all, every, blank, up_to, bit, zeros}
 use Rattle.model.specs.Numbers.{good?, endless, number}
@@ -172,7 +172,7 @@ requeued =
 
 -- what a read shows: behind a write, and the same before and behind a collection that moved the page
 pub record Seen : Type 0 where
-  written : ((run A bad (Read 1 2 (zeros 4) (zeros 4 ∷ [])) (after A bad (Write 1 2 (5 ∷ 6 ∷ []) (zeros 4 ∷ zeros 4 ∷ [])) unit)).answer ≡ Moved 2)
+  written : ((run A bad (Read 1 2 (zeros 4) (zeros 4 ∷ [])) (after A bad (Write 1 2 (5 ∷ 6 ∷ []) (zeros 4 ∷ zeros 4 ∷ [])) unit)).answer ≡ Ok 2)
       × (take 2 (run A bad (Read 1 2 (zeros 4) (zeros 4 ∷ [])) (after A bad (Write 1 2 (5 ∷ 6 ∷ []) (zeros 4 ∷ zeros 4 ∷ [])) unit)).left.buffer ≡ 5 ∷ 6 ∷ [])
   moved : Shows (run A bad (Read 4 4 (zeros 4) (zeros 4 ∷ [])) (after A bad (Collect gc) unit)) (run A bad (Read 4 4 (zeros 4) (zeros 4 ∷ [])) unit)
 
@@ -210,8 +210,8 @@ late = lit endless (after A bad Format (lit 1 (after A bad (Restore Empty [] (ze
 
 pub record Serving : Type 0 where
   serving : InService A late
-  moved : (run A (0 ∷ 1 ∷ []) (put 8 4) late).answer ≡ Moved 4
-  spent : (run A bad (put 8 4) (lit 0 late)).answer ≡ Refused Device
+  moved : (run A (0 ∷ 1 ∷ []) (put 8 4) late).answer ≡ Ok 4
+  spent : (run A bad (put 8 4) (lit 0 late)).answer ≡ Err Device
   by_the_fuse : (after A bad (put 8 4) (lit 0 late)).flash.fuse ≡ 0
   told : (after A bad (Collect gc) (lit 0 unit)).flash.fuse ≡ 0
 
@@ -245,8 +245,8 @@ pub record Gainful : Type 0 where
   finishes : total (tab A (after A bad (Collect gc) unit)).free ≡ 1 + (2 - 1)
   spends : total (tab A full).free + 1 ≡ 1
   short : outside bad (tab A full).free < 1
-  exactly : Exactly (negsuc 27 ≡ number New (Refused CopyNoRoom)) (outside bad (tab A full).free < listed_of (tab A full))
-  whenever : negsuc 27 ≡ number New (Refused CopyNoRoom)
+  exactly : Exactly (negsuc 27 ≡ number New (Err CopyNoRoom)) (outside bad (tab A full).free < listed_of (tab A full))
+  whenever : negsuc 27 ≡ number New (Err CopyNoRoom)
 
 gainful : Gainful
 unfolding

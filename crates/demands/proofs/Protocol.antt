@@ -7,7 +7,7 @@ use mathlib.Core.List.{List, [], ◌∷◌}
 use lib.ListN.{length}
 use Rattle.model.specs.Lists.{zeros}
 use Rattle.model.specs.declared.Geometry.{Geometry}
-use Rattle.model.specs.declared.Answer.{Answer}
+use Rattle.model.specs.Numbers.{Answer}
 use Rattle.model.specs.Numbers.{endless}
 use Rattle.model.specs.Tables.{Tables, tab_words, pages}
 use Rattle.model.specs.Device.{Flash}

@@ -8,7 +8,7 @@ use Rattle.model.specs.declared.Geometry.{Geometry}
 use Rattle.model.specs.declared.Numbers.TheVariants.{Old}
 use Rattle.model.specs.declared.Queueing.{Queueing}
 use Rattle.model.specs.declared.Queueing.TheVariants.{Empty, Dead}
-use Rattle.model.specs.declared.Answer.TheVariants.{Moved}
+use Rattle.model.specs.Numbers.{Ok}
 use Rattle.model.specs.Lists.{bit, zeros}
 use Rattle.model.specs.Numbers.{number}
 use Rattle.model.specs.Tables.{Tables, at, queue_of, tab_words, pages, view}
@@ -35,7 +35,7 @@ module _ (G : Geometry) (b w u : List ℕ) (s : List (List ℕ)) where
   pub dead_queued : (w' u' : List ℕ) (t : List (List ℕ)) → Restored Dead w' u' t (pos 0)
       → (queue_of (view G w' u') ≡ dead_ones G G.n 0 (view G w' u')) × ((g : ℕ) → g < G.n → at (view G w' u').flags g ≡ bit (dead? G g (view G w' u')))
   dead_queued w' u' t P =
-      let e : (run G [] (Restore Dead b s) unit).answer ≡ Moved 0 = moved_of G [] Old (Restore Dead b s) unit 0 P.answer_is in
+      let e : (run G [] (Restore Dead b s) unit).answer ≡ Ok 0 = moved_of G [] Old (Restore Dead b s) unit 0 P.answer_is in
       subst (λ (v : Tables). (queue_of v ≡ dead_ones G G.n 0 v) × ((g : ℕ) → g < G.n → at v.flags g ≡ bit (dead? G g v)))
       (sym (tables_left Dead w' u' t (pos 0) P))
       (queue_made G [] b s unit e, flags_made G [] b s unit e)
@@ -68,7 +68,7 @@ pub saved_queued : (G : Geometry) (w₀ u₀ b b' : List ℕ) (s s' : List (List
     × ((g : ℕ) → g < G.n → at (view G w' u').flags g ≡ bit (dead? G g (view G w₀ u₀)))
 saved_queued G w₀ u₀ b b' s s' m E w u hw hu w' u' t z P =
     let r₀ : Recorder = recorder w₀ u₀ no_flash in
-    let e : (run G [] (Encode b s) r₀).answer ≡ Moved m = moved_of G [] Old (Encode b s) r₀ m E.answer_is in
+    let e : (run G [] (Encode b s) r₀).answer ≡ Ok m = moved_of G [] Old (Encode b s) r₀ m E.answer_is in
     subst (λ (v : Tables). (queue_of v ≡ dead_ones G G.n 0 (view G w₀ u₀)) × ((g : ℕ) → g < G.n → at v.flags g ≡ bit (dead? G g (view G w₀ u₀))))
     (sym (tables_left G (take m b') w u (zeros (pages G) ∷ []) Dead w' u' t z P
     ∙ ap (λ (f : List ℕ). tab G (after G [] (Restore Dead (take m f) (zeros (pages G) ∷ [])) (recorder w u no_flash))) (ap (λ (x : Lent). x.buffer) E.left_is)))

@@ -11,7 +11,7 @@ use lib.Seq.{take_at, drop_at, length-take-le}
 use borrow.Author.Tests.{eq-eqb, ne_eqb, ltb-true, leb-true, le-leb}
 use Rattle.model.specs.Lists.{every, splice}
 use Rattle.model.specs.declared.Geometry.{Geometry}
-use Rattle.model.specs.declared.Answer.TheVariants.{Moved}
+use Rattle.model.specs.Numbers.{Ok}
 use Rattle.model.specs.declared.Cause.TheVariants.{Unmapped}
 use Rattle.model.specs.Numbers.{Good, good?, empty, logical_page, offset}
 use Rattle.model.specs.Tables.{word_of, pages}
@@ -48,7 +48,7 @@ module _ (G : Geometry) (bad : List ℕ) (sector len : ℕ) (o : List ℕ) (s : 
   l = logical_page G sector
 
   abbrev shown : Recorder → Outcome
-  shown r = outcome (lent r (splice 0 (take len (drop (offset G sector) (whole G (state_in G r) l))) o) s) (Moved len) []
+  shown r = outcome (lent r (splice 0 (take len (drop (offset G sector) (whole G (state_in G r) l))) o) s) (Ok len) []
 
   abbrev read_deed : Recorder → Outcome
   read_deed r = unless (not (eqb (word_of (tab G r) l) empty)) Unmapped (lent r o s) (shown r)
@@ -106,7 +106,7 @@ module _ (G : Geometry) (bad : List ℕ) (sector len : ℕ) (o : List ℕ) (s : 
   pub shows_content : (r : Recorder) → Good G → SoundIn G r → length r.flash.bytes ≡ pages G * G.s → len ≤ length o
       → clean (seen_scratch G ∷ []) s ≡ true → ltb l G.e ≡ true → leb (offset G sector + len) G.s ≡ true
       → (page : List ℕ) → content_of G r l ≡ holds page
-      → run G bad (Read sector len o s) r ≡ outcome (lent r (splice 0 (take len (drop (offset G sector) page)) o) s) (Moved len) []
+      → run G bad (Read sector len o s) r ≡ outcome (lent r (splice 0 (take len (drop (offset G sector) page)) o) s) (Ok len) []
   unfolding read every
   shows_content r K S b fits tidy below inside page e =
       guarded_passes _ _ _ _ (lent r o s) _
@@ -115,7 +115,7 @@ module _ (G : Geometry) (bad : List ℕ) (sector len : ℕ) (o : List ℕ) (s : 
       below
       inside
       ∙ unless_passes (not (eqb (word_of (tab G r) l) empty)) Unmapped (lent r o s) (shown r) (rw (ne_eqb _ _ mapped))
-      ∙ ap (λ w. outcome (lent r (splice 0 (take len (drop (offset G sector) w)) o) s) (Moved len) []) same
+      ∙ ap (λ w. outcome (lent r (splice 0 (take len (drop (offset G sector) w)) o) s) (Ok len) []) same
     where
       mapped : Mapped (tab G r) l
       mapped a = absurd (let f : nothing ≡ holds page = sym (content-empty G (state_in G r) l a) ∙ e in let z : ◌≡◌ {A = ℕ} 0 1 = cc in omega arith)
@@ -191,15 +191,15 @@ laid off len d xs e h =
 
 -- A write that was not refused, and then a read of the same sector and length into any buffer that is long enough: it shows what was written
 pub read_back : (G : Geometry) (bad : List ℕ) (sector len m : ℕ) (d : List ℕ) (s : List (List ℕ)) (r : Recorder)
-    → (run G bad (Write sector len d s) r).answer ≡ Moved m
+    → (run G bad (Write sector len d s) r).answer ≡ Ok m
     → (o : List ℕ) (s' : List (List ℕ)) → len ≤ length o → clean (seen_scratch G ∷ []) s' ≡ true
     → run G bad (Read sector len o s') (after G bad (Write sector len d s) r)
-    ≡ outcome (lent (after G bad (Write sector len d s) r) (splice 0 (take len d) o) s') (Moved len) []
+    ≡ outcome (lent (after G bad (Write sector len d s) r) (splice 0 (take len d) o) s') (Ok len) []
 unfolding write
 read_back G bad sector len m d s r e o s' ho tidy =
     guarded_by
-    (λ y. y.answer ≡ Moved m
-    → run G bad (Read sector len o s') y.left.unit ≡ outcome (lent y.left.unit (splice 0 (take len d) o) s') (Moved len) [])
+    (λ y. y.answer ≡ Ok m
+    → run G bad (Read sector len o s') y.left.unit ≡ outcome (lent y.left.unit (splice 0 (take len d) o) s') (Ok len) [])
     _ _ _ _ x _
     (λ q. absurd (let z : ◌≡◌ {A = ℕ} 0 1 = cc in omega arith))
     (λ q. absurd (let z : ◌≡◌ {A = ℕ} 0 1 = cc in omega arith))
@@ -215,7 +215,7 @@ read_back G bad sector len m d s r e o s' ho tidy =
     ∙ (subst (Own G (state_of G x) inner.st (logical_page G sector) (offset G sector) (take len d)) q w.own).1 in
     shows_content G bad sector len o s' (back G x inner).left.unit X.good (packed_in G inner.st.tab inner.st.flash w.sound)
     w.fit.bytes ho tidy c f page held
-    ∙ ap (λ z. outcome (lent (back G x inner).left.unit (splice 0 z o) s') (Moved len) [])
+    ∙ ap (λ z. outcome (lent (back G x inner).left.unit (splice 0 z o) s') (Ok len) [])
     (laid (offset G sector) len (take len d) (old_page G (state_of G x) (logical_page G sector)) n
     (rw (old_length G X.good (state_of G x) X.counted X.fit (logical_page G sector)) (leb-true _ _ f))))
     e
@@ -231,10 +231,10 @@ read_back G bad sector len m d s r e o s' ho tidy =
 
 -- a write that was not refused was lent data enough
 long_enough : (G : Geometry) (bad : List ℕ) (sector len m : ℕ) (d : List ℕ) (s : List (List ℕ)) (r : Recorder)
-    → (run G bad (Write sector len d s) r).answer ≡ Moved m → len ≤ length d
+    → (run G bad (Write sector len d s) r).answer ≡ Ok m → len ≤ length d
 unfolding write
 long_enough G bad sector len m d s r =
-    guarded_by (λ y. y.answer ≡ Moved m → len ≤ length d) _ _ _ _ (lent r [] s) _
+    guarded_by (λ y. y.answer ≡ Ok m → len ≤ length d) _ _ _ _ (lent r [] s) _
     (λ q. absurd (let z : ◌≡◌ {A = ℕ} 0 1 = cc in omega arith))
     (λ q. absurd (let z : ◌≡◌ {A = ℕ} 0 1 = cc in omega arith))
     (λ a _ _ _ _.
@@ -243,9 +243,9 @@ long_enough G bad sector len m d s r =
 
 -- so the buffer's first bytes are the data's first bytes
 pub read-after-write : (G : Geometry) (bad : List ℕ) (sector len m : ℕ) (d : List ℕ) (s : List (List ℕ)) (r : Recorder)
-    → (run G bad (Write sector len d s) r).answer ≡ Moved m
+    → (run G bad (Write sector len d s) r).answer ≡ Ok m
     → (o : List ℕ) (s' : List (List ℕ)) → len ≤ length o → clean (seen_scratch G ∷ []) s' ≡ true
-    → ((run G bad (Read sector len o s') (after G bad (Write sector len d s) r)).answer ≡ Moved len)
+    → ((run G bad (Read sector len o s') (after G bad (Write sector len d s) r)).answer ≡ Ok len)
     × (take len (run G bad (Read sector len o s') (after G bad (Write sector len d s) r)).left.buffer ≡ take len d)
 unfolding splice
 read-after-write G bad sector len m d s r e o s' ho tidy =

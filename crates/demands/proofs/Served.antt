@@ -10,8 +10,8 @@ use lib.ListN.{length, take}
 use Rattle.model.specs.declared.Geometry.{Geometry}
 use Rattle.model.specs.declared.Numbers.{Numbers}
 use Rattle.model.specs.declared.Numbers.TheVariants.{Old, New}
-use Rattle.model.specs.declared.Answer.{Answer}
-use Rattle.model.specs.declared.Answer.TheVariants.{Refused}
+use Rattle.model.specs.Numbers.{Answer}
+use Rattle.model.specs.Numbers.{Err}
 use Rattle.model.specs.declared.Cause.{Cause}
 use Rattle.model.specs.declared.Cause.TheVariants.{NoRoom, Device}
 use Rattle.model.specs.Lists.{zeros}
@@ -47,7 +47,7 @@ module _ (G : Geometry) (bad : List ℕ) where
 
   -- so with a fuse that never ends no programming is refused at all. Of the definition's answer: a collection's -14 does not tell its cause (-121 does:
   -- `never_121`, Told)
-  pub never_refused : {r : Recorder} → InService G r → (c : Call) (k : Cause) → (run G bad c (lit endless r)).answer ≡ Refused k → AtProgramming (kind_of k) → ⊥
+  pub never_refused : {r : Recorder} → InService G r → (c : Call) (k : Cause) → (run G bad c (lit endless r)).answer ≡ Err k → AtProgramming (kind_of k) → ⊥
   never_refused {r} h c k a p =
       let e : (after G bad c (lit endless r)).flash.fuse ≡ 0 =
       subst (λ y. OnlyFuse y (after G bad c (lit endless r)).flash) a (never_for_order G (lent_fuse h endless) bad c) p in
@@ -57,9 +57,9 @@ module _ (G : Geometry) (bad : List ℕ) where
 
   -- a write's -5 is the device's refusal to program
   abbrev Five : Numbers → Answer → Type 0
-  Five N a = negsuc 4 ≡ number N a → a ≡ Refused Device
+  Five N a = negsuc 4 ≡ number N a → a ≡ Err Device
 
-  full_five : (N : Numbers) → Five N (Refused NoRoom)
+  full_five : (N : Numbers) → Five N (Err NoRoom)
   full_five Old = unlike 4 13 (omega arith)
   full_five New = unlike 4 27 (omega arith)
 

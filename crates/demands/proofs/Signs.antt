@@ -13,8 +13,8 @@ use Rattle.model.specs.Lists.{first_not}
 use Rattle.model.specs.declared.Geometry.{Geometry}
 use Rattle.model.specs.declared.Numbers.{Numbers}
 use Rattle.model.specs.declared.Numbers.TheVariants.{Old, New}
-use Rattle.model.specs.declared.Answer.{Answer}
-use Rattle.model.specs.declared.Answer.TheVariants.{Moved, Refused}
+use Rattle.model.specs.Numbers.{Answer}
+use Rattle.model.specs.Numbers.{Ok, Err}
 use Rattle.model.specs.declared.Cause.TheVariants.{Wrong, Unsound, Unmapped, NoRoom, Device, CopyNoRoom, CopyDevice, Erase, Reason}
 use Rattle.model.specs.Numbers.{number}
 use Rattle.model.specs.Causes.{kind_of, OfReason, ReasonsIn}
@@ -38,8 +38,8 @@ abbrev pub Fair : Answer → Type 0
 Fair = ReasonsIn FairReason
 
 pass_fair : (a : Answer) → Pass a → Fair a
-pass_fair (Moved m) h = tt
-pass_fair (Refused c) h = pass_kind (OfReason FairReason) (λ _. tt) tt (kind_of c) h
+pass_fair (Ok m) h = tt
+pass_fair (Err c) h = pass_kind (OfReason FairReason) (λ _. tt) tt (kind_of c) h
 
 -- the first test that fails is one of them
 first_in : (k : ℕ) (bs : List Bool) → (first_not k bs ≡ 0) ⊎ ((k ≤ first_not k bs) × (first_not k bs < k + length bs))
@@ -116,33 +116,33 @@ module _ (G : Geometry) (bad : List ℕ) where
   pub signs : (N : Numbers) (c : Call) (r : Recorder) → IsCount (run G bad c r).answer ⊎ IsRefusal N (run G bad c r).answer
   signs N c r = go N (run G bad c r).answer (fair c r)
     where
-      past : (N : Numbers) (k : ℕ) → 1 ≤ k → IsRefusal N (Refused (Reason k))
+      past : (N : Numbers) (k : ℕ) → 1 ≤ k → IsRefusal N (Err (Reason k))
       past N zero h = absurd (omega arith)
       past N (suc k) h = record { cause = Reason (suc k); below = k; answer = refl; refusal_is = refl; number_is = refl }
 
       go : (N : Numbers) (a : Answer) → Fair a → IsCount a ⊎ IsRefusal N a
-      go N (Moved m) h = inl (record { moved = m; answer = refl; number_is = λ _. refl })
-      go N (Refused Wrong) h = inr (record { cause = Wrong; below = 21; answer = refl; refusal_is = refl; number_is = refl })
-      go N (Refused Unsound) h = inr (record { cause = Unsound; below = 116; answer = refl; refusal_is = refl; number_is = refl })
-      go N (Refused Unmapped) h = inr (record { cause = Unmapped; below = 60; answer = refl; refusal_is = refl; number_is = refl })
-      go Old (Refused NoRoom) h = inr (record { cause = NoRoom; below = 13; answer = refl; refusal_is = refl; number_is = refl })
-      go New (Refused NoRoom) h = inr (record { cause = NoRoom; below = 27; answer = refl; refusal_is = refl; number_is = refl })
-      go N (Refused Device) h = inr (record { cause = Device; below = 4; answer = refl; refusal_is = refl; number_is = refl })
-      go Old (Refused CopyNoRoom) h = inr (record { cause = CopyNoRoom; below = 13; answer = refl; refusal_is = refl; number_is = refl })
-      go New (Refused CopyNoRoom) h = inr (record { cause = CopyNoRoom; below = 27; answer = refl; refusal_is = refl; number_is = refl })
-      go Old (Refused CopyDevice) h = inr (record { cause = CopyDevice; below = 13; answer = refl; refusal_is = refl; number_is = refl })
-      go New (Refused CopyDevice) h = inr (record { cause = CopyDevice; below = 120; answer = refl; refusal_is = refl; number_is = refl })
-      go N (Refused Erase) h = inr (record { cause = Erase; below = 4; answer = refl; refusal_is = refl; number_is = refl })
-      go N (Refused (Reason k)) h = inr (past N k h.0)
+      go N (Ok m) h = inl (record { moved = m; answer = refl; number_is = λ _. refl })
+      go N (Err Wrong) h = inr (record { cause = Wrong; below = 21; answer = refl; refusal_is = refl; number_is = refl })
+      go N (Err Unsound) h = inr (record { cause = Unsound; below = 116; answer = refl; refusal_is = refl; number_is = refl })
+      go N (Err Unmapped) h = inr (record { cause = Unmapped; below = 60; answer = refl; refusal_is = refl; number_is = refl })
+      go Old (Err NoRoom) h = inr (record { cause = NoRoom; below = 13; answer = refl; refusal_is = refl; number_is = refl })
+      go New (Err NoRoom) h = inr (record { cause = NoRoom; below = 27; answer = refl; refusal_is = refl; number_is = refl })
+      go N (Err Device) h = inr (record { cause = Device; below = 4; answer = refl; refusal_is = refl; number_is = refl })
+      go Old (Err CopyNoRoom) h = inr (record { cause = CopyNoRoom; below = 13; answer = refl; refusal_is = refl; number_is = refl })
+      go New (Err CopyNoRoom) h = inr (record { cause = CopyNoRoom; below = 27; answer = refl; refusal_is = refl; number_is = refl })
+      go Old (Err CopyDevice) h = inr (record { cause = CopyDevice; below = 13; answer = refl; refusal_is = refl; number_is = refl })
+      go New (Err CopyDevice) h = inr (record { cause = CopyDevice; below = 120; answer = refl; refusal_is = refl; number_is = refl })
+      go N (Err Erase) h = inr (record { cause = Erase; below = 4; answer = refl; refusal_is = refl; number_is = refl })
+      go N (Err (Reason k)) h = inr (past N k h.0)
 
   -- a reason from 1 to 9
-  pub reasons : (c : Call) (r : Recorder) (k : ℕ) → (run G bad c r).answer ≡ Refused (Reason k) → (1 ≤ k) × (k ≤ 9)
+  pub reasons : (c : Call) (r : Recorder) (k : ℕ) → (run G bad c r).answer ≡ Err (Reason k) → (1 ≤ k) × (k ≤ 9)
   reasons c r k e = subst Fair e (fair c r)
 
   -- a count that comes back was moved
-  pub moved_of : (N : Numbers) (c : Call) (r : Recorder) (m : ℕ) → pos m ≡ number N (run G bad c r).answer → (run G bad c r).answer ≡ Moved m
+  pub moved_of : (N : Numbers) (c : Call) (r : Recorder) (m : ℕ) → pos m ≡ number N (run G bad c r).answer → (run G bad c r).answer ≡ Ok m
   moved_of N c r m e = go (signs N c r)
     where
-      go : IsCount (run G bad c r).answer ⊎ IsRefusal N (run G bad c r).answer → (run G bad c r).answer ≡ Moved m
-      go (inl h) = h.answer ∙ ap (λ z. Moved (count_of_answer z)) (sym (e ∙ h.number_is N))
+      go : IsCount (run G bad c r).answer ⊎ IsRefusal N (run G bad c r).answer → (run G bad c r).answer ≡ Ok m
+      go (inl h) = h.answer ∙ ap (λ z. Ok (count_of_answer z)) (sym (e ∙ h.number_is N))
       go (inr h) = unlike_count m h.below (e ∙ h.number_is)

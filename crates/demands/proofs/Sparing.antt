@@ -10,8 +10,8 @@ use lib.ListN.{length, take}
 use borrow.Author.Tests.{eq-eqb, eqb-true, eqb-false}
 use Rattle.model.specs.Lists.{splice}
 use Rattle.model.specs.declared.Geometry.{Geometry}
-use Rattle.model.specs.declared.Answer.{Answer}
-use Rattle.model.specs.declared.Answer.TheVariants.{Moved, Refused}
+use Rattle.model.specs.Numbers.{Answer}
+use Rattle.model.specs.Numbers.{Ok, Err}
 use Rattle.model.specs.declared.Cause.TheVariants.{Erase}
 use Rattle.model.specs.Tables.{Tables, at}
 use Rattle.model.specs.Device.{Op, Program, EraseSeg, State, state, Out, may_erase, finish, refuse, go_on}
@@ -74,8 +74,8 @@ module _ (G : Geometry) (bad : List ℕ) where
   -- a collection copies, which erases nothing, and then erases its victim at most
   module _ (M : List ℕ) where
     then_spares : (a : Answer) (o : Out) (rest : State → Out) → Spares G M o.ops → Spares G M (rest o.st).ops → Spares G M (go_on a o rest).ops
-    then_spares (Moved m) o rest h k = spares_behind G M o.ops (rest o.st).ops h k
-    then_spares (Refused c) o rest h k = h
+    then_spares (Ok m) o rest h k = spares_behind G M o.ops (rest o.st).ops h k
+    then_spares (Err c) o rest h k = h
 
     copy_spares : (v : ℕ) (st : State) → Spares G M (copy_one G bad v st).ops
     copy_spares v st = page_by (Spares G M) tt (λ g k page. tt) (last_of G v st.tab) 0 (whole G st (last_of G v st.tab)) st
@@ -120,9 +120,9 @@ module _ (G : Geometry) (bad : List ℕ) where
   collects_one r s e = go (run G bad (Collect s) r).answer (collects_only r s e)
     where
       go : (a : Answer) → Erases G r a (run G bad (Collect s) r).ops → length (run G bad (Collect s) r).ops ≤ 1
-      go (Moved m) (inl q) = omega (arith, ap length q.1)
-      go (Moved m) (inr q) = omega (arith, ap length q)
-      go (Refused c) q = omega (arith, ap length q.1)
+      go (Ok m) (inl q) = omega (arith, ap length q.1)
+      go (Ok m) (inr q) = omega (arith, ap length q)
+      go (Err c) q = omega (arith, ap length q.1)
 
   -- and that erase spares every page mapped
   pub drained_spares : (r : Recorder) (s : List (List ℕ)) → Drained G r → Spares G (map_in G r) (run G bad (Collect s) r).ops

@@ -7,7 +7,7 @@ use lib.ListN.{length, take, replicate}
 use Rattle.crc32.specs.Crc32.{plus, add, among, powers, low, remainder, bits_of, bits, digit, number as value_of, dividend, crc32}
 use Rattle.model.specs.Lists.{without, push_front, insert_by, sort_by, splice, total, occ, all, every, blank, up_to, zeros}
 use Rattle.model.specs.declared.Geometry.{Geometry}
-use Rattle.model.specs.declared.Answer.TheVariants.{Moved}
+use Rattle.model.specs.Numbers.{Ok}
 use Rattle.model.specs.Numbers.{good?, endless, logical_page}
 use Rattle.model.specs.Tables.{Tables, at, tab_words, pages, view, packed}
 use Rattle.model.specs.Sound.{names, soundb}
@@ -117,9 +117,9 @@ record Computed : Type 0 where
   waits : 0 < (tab A r₁).queued
   one : at (tab A r₁).lens (victim (tab A r₁)) ≡ 1
   last : logical_page A 4 ≡ last_of A (victim (tab A r₁)) (tab A r₁)
-  accepted : (run A bad empties r₁).answer ≡ Moved 0
-  saved₀ : (run A bad saving r₀).answer ≡ Moved 64
-  saved₂ : (run A bad saving r₂).answer ≡ Moved 64
+  accepted : (run A bad empties r₁).answer ≡ Ok 0
+  saved₀ : (run A bad saving r₀).answer ≡ Ok 64
+  saved₂ : (run A bad saving r₂).answer ≡ Ok 64
   erases : (run A bad gc r₂).ops ≡ EraseSeg 0 1 ∷ []
   cut_erase : Cut A 0 (ops_of A bad gc r₂) r₂.flash torn
 

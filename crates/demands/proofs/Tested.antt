@@ -8,7 +8,7 @@ use lib.Dec.{eqb, ltb, leb}
 use lib.ListN.{length, take, drop, length-replicate}
 use borrow.Author.Tests.{eqb-true, eq-eqb, ltb-true, leb-true, lt-ltb, le-leb}
 use Rattle.model.specs.declared.Geometry.{Geometry}
-use Rattle.model.specs.declared.Answer.TheVariants.{Moved}
+use Rattle.model.specs.Numbers.{Ok}
 use Rattle.model.specs.declared.Cause.TheVariants.{Unmapped, Reason}
 use Rattle.model.specs.Lists.{every, blank, splice, zeros}
 use Rattle.model.specs.Numbers.{good?, empty, logical_page, offset}
@@ -269,20 +269,20 @@ module _ (G : Geometry) where
         outcome (lent (recorder r.words r.used o.st.flash) [] []) o.answer o.ops
     deed Open r =
         let t = opened G (tab G r).alloc in
-        outcome (lent (recorder (packed t) t.used r.flash) [] []) (Moved 0) []
+        outcome (lent (recorder (packed t) t.used r.flash) [] []) (Ok 0) []
     deed (Read sector len o s) r =
         unless (not (eqb (word_of (tab G r) (logical_page G sector)) empty)) Unmapped (lent r o s)
-        (outcome (lent r (splice 0 (take len (drop (offset G sector) (whole G (state_in G r) (logical_page G sector)))) o) s) (Moved len) [])
+        (outcome (lent r (splice 0 (take len (drop (offset G sector) (whole G (state_in G r) (logical_page G sector)))) o) s) (Ok len) [])
     deed (Write sector len d s) r =
         put_back (lent r [] s) (write_page G bad (logical_page G sector) (offset G sector) (take len d) (state_in G r))
     deed (Collect s) r = put_back (lent r [] s) (collect G bad (state_in G r))
     deed (CollectList m s) r = put_back (lent r [] s) (collect_list G bad m (state_in G r))
     deed (CollectThreshold t m s) r = put_back (lent r [] s) (collect_threshold G bad t m (state_in G r))
-    deed (Encode b s) r = outcome (lent r (splice 0 (sealed G (tab G r)) b) s) (Moved (file_size G)) []
+    deed (Encode b s) r = outcome (lent r (splice 0 (sealed G (tab G r)) b) s) (Ok (file_size G)) []
     deed (Restore q b s) r =
         let t = restored_by G q b in
         unless (eqb (reason_of G b) 0) (Reason (reason_of G b)) (lent r [] s)
-        (outcome (lent (recorder (packed t) t.used r.flash) [] s) (Moved 0) [])
+        (outcome (lent (recorder (packed t) t.used r.flash) [] s) (Ok 0) [])
 
     pub run_is : (c : Call) (r : Recorder)
         → run G bad c r ≡ guarded (sizes bad c r) (sound_test c r) (page_test c) (overrun_test c) (lent_to c r) (deed c r)

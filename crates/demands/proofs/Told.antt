@@ -11,8 +11,8 @@ use lib.IntN.{ℤ, pos, negsuc}
 use borrow.Author.Tests.{eqb-true}
 use Rattle.model.specs.declared.Geometry.{Geometry}
 use Rattle.model.specs.declared.Numbers.TheVariants.{Old, New}
-use Rattle.model.specs.declared.Answer.{Answer}
-use Rattle.model.specs.declared.Answer.TheVariants.{Moved, Refused}
+use Rattle.model.specs.Numbers.{Answer}
+use Rattle.model.specs.Numbers.{Ok, Err}
 use Rattle.model.specs.declared.Cause.TheVariants.{Wrong, Unsound, Unmapped, NoRoom, Device, CopyNoRoom, CopyDevice, Erase, Reason}
 use Rattle.model.specs.Numbers.{endless, number, as_old}
 use Rattle.model.specs.Causes.{kind_of, ByCopy}
@@ -32,28 +32,28 @@ use Rattle.demands.proofs.Served.{fuse_alone, never_refused}
 
 -- the answers that have a number of the new choice: -28 room, a write's or a copy's; -121 a copy at the device; -14 none
 record Tells (a : Answer) (z : ℤ) : Type 0 where
-  room : z ≡ negsuc 27 → (a ≡ Refused NoRoom) ⊎ (a ≡ Refused CopyNoRoom)
-  device : z ≡ negsuc 120 → a ≡ Refused CopyDevice
+  room : z ≡ negsuc 27 → (a ≡ Err NoRoom) ⊎ (a ≡ Err CopyNoRoom)
+  device : z ≡ negsuc 120 → a ≡ Err CopyDevice
   neither : z ≢ negsuc 13
 
 others : (a : Answer) (k : ℕ) → k ≢ 27 → k ≢ 120 → k ≢ 13 → Tells a (negsuc k)
 others a k x y z = record { room = unlike k 27 x; device = unlike k 120 y; neither = unlike k 13 z }
 
-reason_tells : (r : ℕ) → (1 ≤ r) × (r ≤ 9) → Tells (Refused (Reason r)) (number New (Refused (Reason r)))
+reason_tells : (r : ℕ) → (1 ≤ r) × (r ≤ 9) → Tells (Err (Reason r)) (number New (Err (Reason r)))
 reason_tells zero h = absurd (omega (arith, h.0))
-reason_tells (suc k) h = others (Refused (Reason (suc k))) k (omega (arith, h.1)) (omega (arith, h.1)) (omega (arith, h.1))
+reason_tells (suc k) h = others (Err (Reason (suc k))) k (omega (arith, h.1)) (omega (arith, h.1)) (omega (arith, h.1))
 
 tells : (a : Answer) → Fair a → Tells a (number New a)
-tells (Moved m) h = record { room = unlike_count m 27; device = unlike_count m 120; neither = unlike_count m 13 }
-tells (Refused NoRoom) h = record { room = λ _. inl refl; device = unlike 27 120 (omega arith); neither = unlike 27 13 (omega arith) }
-tells (Refused CopyNoRoom) h = record { room = λ _. inr refl; device = unlike 27 120 (omega arith); neither = unlike 27 13 (omega arith) }
-tells (Refused CopyDevice) h = record { room = unlike 120 27 (omega arith); device = λ _. refl; neither = unlike 120 13 (omega arith) }
-tells (Refused Wrong) h = others _ 21 (omega arith) (omega arith) (omega arith)
-tells (Refused Unsound) h = others _ 116 (omega arith) (omega arith) (omega arith)
-tells (Refused Unmapped) h = others _ 60 (omega arith) (omega arith) (omega arith)
-tells (Refused Device) h = others _ 4 (omega arith) (omega arith) (omega arith)
-tells (Refused Erase) h = others _ 4 (omega arith) (omega arith) (omega arith)
-tells (Refused (Reason r)) h = reason_tells r h
+tells (Ok m) h = record { room = unlike_count m 27; device = unlike_count m 120; neither = unlike_count m 13 }
+tells (Err NoRoom) h = record { room = λ _. inl refl; device = unlike 27 120 (omega arith); neither = unlike 27 13 (omega arith) }
+tells (Err CopyNoRoom) h = record { room = λ _. inr refl; device = unlike 27 120 (omega arith); neither = unlike 27 13 (omega arith) }
+tells (Err CopyDevice) h = record { room = unlike 120 27 (omega arith); device = λ _. refl; neither = unlike 120 13 (omega arith) }
+tells (Err Wrong) h = others _ 21 (omega arith) (omega arith) (omega arith)
+tells (Err Unsound) h = others _ 116 (omega arith) (omega arith) (omega arith)
+tells (Err Unmapped) h = others _ 60 (omega arith) (omega arith) (omega arith)
+tells (Err Device) h = others _ 4 (omega arith) (omega arith) (omega arith)
+tells (Err Erase) h = others _ 4 (omega arith) (omega arith) (omega arith)
+tells (Err (Reason r)) h = reason_tells r h
 
 -- read as 14, and not 14
 as_14 : (z : ℤ) → as_old z ≡ negsuc 13 → z ≢ negsuc 13 → (z ≡ negsuc 27) ⊎ (z ≡ negsuc 120)
@@ -67,8 +67,8 @@ as_14 (negsuc k) e n = go (eqb k 27) refl (eqb k 120) refl e
     go false p false q e = absurd (n e)
 
 abbrev OfCopy : Answer → Type 0
-OfCopy (Moved m) = ⊥
-OfCopy (Refused c) = ByCopy (kind_of c)
+OfCopy (Ok m) = ⊥
+OfCopy (Err c) = ByCopy (kind_of c)
 
 -- the calls that are handed no choice
 abbrev pub Untold : Call → Type 0
@@ -96,24 +96,24 @@ module _ (G : Geometry) (bad : List ℕ) where
     means = subst (Tells (run G bad c r).answer) (sym P.answer_is) (tells (run G bad c r).answer (fair G bad c r))
 
     -- -28 exactly when a write, or a copy, finds no segment outside the bad list with a free page
-    pub full_told : Exactly (z ≡ negsuc 27) (When G bad c r (Refused NoRoom) ⊎ When G bad c r (Refused CopyNoRoom))
+    pub full_told : Exactly (z ≡ negsuc 27) (When G bad c r (Err NoRoom) ⊎ When G bad c r (Err CopyNoRoom))
     full_told = record { only = λ e. only (means.room e); whenever = whenever }
       where
-        only : ((run G bad c r).answer ≡ Refused NoRoom) ⊎ ((run G bad c r).answer ≡ Refused CopyNoRoom)
-            → When G bad c r (Refused NoRoom) ⊎ When G bad c r (Refused CopyNoRoom)
-        only (inl e) = inl ((answers_of G bad c r (Refused NoRoom)).only e)
-        only (inr e) = inr ((answers_of G bad c r (Refused CopyNoRoom)).only e)
+        only : ((run G bad c r).answer ≡ Err NoRoom) ⊎ ((run G bad c r).answer ≡ Err CopyNoRoom)
+            → When G bad c r (Err NoRoom) ⊎ When G bad c r (Err CopyNoRoom)
+        only (inl e) = inl ((answers_of G bad c r (Err NoRoom)).only e)
+        only (inr e) = inr ((answers_of G bad c r (Err CopyNoRoom)).only e)
 
-        whenever : When G bad c r (Refused NoRoom) ⊎ When G bad c r (Refused CopyNoRoom) → z ≡ negsuc 27
-        whenever (inl h) = P.answer_is ∙ ap (number New) ((answers_of G bad c r (Refused NoRoom)).whenever h)
-        whenever (inr h) = P.answer_is ∙ ap (number New) ((answers_of G bad c r (Refused CopyNoRoom)).whenever h)
+        whenever : When G bad c r (Err NoRoom) ⊎ When G bad c r (Err CopyNoRoom) → z ≡ negsuc 27
+        whenever (inl h) = P.answer_is ∙ ap (number New) ((answers_of G bad c r (Err NoRoom)).whenever h)
+        whenever (inr h) = P.answer_is ∙ ap (number New) ((answers_of G bad c r (Err CopyNoRoom)).whenever h)
 
     -- -121 exactly when the device refuses a copy
-    pub device_told : Exactly (z ≡ negsuc 120) (When G bad c r (Refused CopyDevice))
+    pub device_told : Exactly (z ≡ negsuc 120) (When G bad c r (Err CopyDevice))
     device_told =
         record {
-          only = λ e. (answers_of G bad c r (Refused CopyDevice)).only (means.device e);
-          whenever = λ h. P.answer_is ∙ ap (number New) ((answers_of G bad c r (Refused CopyDevice)).whenever h);
+          only = λ e. (answers_of G bad c r (Err CopyDevice)).only (means.device e);
+          whenever = λ h. P.answer_is ∙ ap (number New) ((answers_of G bad c r (Err CopyDevice)).whenever h);
         }
 
     -- "Field staff read 14 as a wiring fault": it is not given
@@ -134,7 +134,7 @@ module _ (G : Geometry) (bad : List ℕ) where
       → PromiseIn New (run G bad (Write sector len d s) r) x z → z ≢ negsuc 120
   write_never_121 sector len d s r P e = none ((device_told (Write sector len d s) r P).only e).1
     where
-      none : DeedWhen G bad (Write sector len d s) r (Refused CopyDevice) → ⊥
+      none : DeedWhen G bad (Write sector len d s) r (Err CopyDevice) → ⊥
       none (inl h) = subst OfCopy h.1 tt
       none (inr (inl h)) = subst OfCopy h.1 tt
       none (inr (inr h)) = subst OfCopy h.1 tt

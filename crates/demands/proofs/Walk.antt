@@ -9,8 +9,8 @@ use lib.ListN.{length}
 use borrow.Author.Tests.{eqb-false}
 use Rattle.model.specs.declared.Geometry.{Geometry}
 use Rattle.model.specs.declared.Cause.TheVariants.{NoRoom, Erase}
-use Rattle.model.specs.declared.Found.{Found}
-use Rattle.model.specs.declared.Found.TheVariants.{At, Nothing}
+use Rattle.model.specs.PageMap.{Found}
+use Rattle.model.specs.PageMap.{Some, spot, None}
 use Rattle.model.specs.Lists.{splice, total}
 use Rattle.model.specs.Tables.{at}
 use Rattle.model.specs.Device.{State, state, Out, finish, refuse, go_on, may_program, may_erase}
@@ -34,8 +34,8 @@ module _ (G : Geometry) (bad : List ℕ) where
       at_page g k false e = refused g k e
 
       go : (r : Found) → P (write_at G r l off d st)
-      go Nothing = none
-      go (At g k) = at_page g k (may_program G g k st.flash) refl
+      go None = none
+      go (Some x) = at_page x.segment x.page (may_program G x.segment x.page st.flash) refl
 
   -- a drained segment is erased and reset, or the device refuses
   pub finish_by : (P : Out → Type 0) (v : ℕ) (st : State) → P (cleared G v st) → P (refuse Erase st) → P (finish_of G v st)

@@ -1,11 +1,11 @@
 -- 01's table, its third column, "Left behind": what each refusal leaves.
 use Rattle.std.specs.Prelude.{ℕ, ◌+◌, ◌*◌, ◌-◌, ◌≤◌, ◌<◌, ◌≡◌, true, false, ◌⊎◌, ◌≢◌, List, [], ◌∷◌, ◌++◌, length, set, take, drop}
 use Rattle.model.specs.declared.Geometry.{Geometry}
-use Rattle.model.specs.declared.Answer.{Answer}
-use Rattle.model.specs.declared.Answer.TheVariants.{Moved, Refused}
+use Rattle.model.specs.Numbers.{Answer}
+use Rattle.model.specs.Numbers.{Ok, Err}
 use Rattle.model.specs.declared.Cause.{Cause}
 use Rattle.model.specs.declared.Cause.TheVariants.{Wrong, Unsound, Unmapped, NoRoom, Device, CopyNoRoom, CopyDevice, Erase, Reason}
-use Rattle.model.specs.declared.Found.TheVariants.{At}
+use Rattle.model.specs.PageMap.{Some, spot}
 use Rattle.model.specs.Lists.{occ, total}
 use Rattle.model.specs.Causes.{for_room, at_device, Kind, in_tests, in_read, in_write, in_copy, in_erase, in_file, kind_of}
 use Rattle.model.specs.Tables.{at, queue_of, list_of}
@@ -34,7 +34,7 @@ pub record Spent (G : Geometry) (bad : List ℕ) (st st' : State) : Type 0 where
   -- the page found, the first free one of a segment that is not bad; the device refuses it
   pub seg : ℕ
   pub page : ℕ
-  pub found : find G bad st.tab ≡ At seg page
+  pub found : find G bad st.tab ≡ Some (spot seg page)
   pub segment : seg < G.n
   pub first : page + at st.tab.free seg ≡ G.p
   pub good : at bad seg ≡ 0
@@ -112,7 +112,7 @@ pub record CopyRefused (G : Geometry) (bad : List ℕ) (c : Cause) (st st' : Sta
   pub copies : Copies G bad (victim st.tab) done (state (taken st.tab) st.flash) here
   pub stand : Stand G (victim st.tab) done (state (taken st.tab) st.flash) here ops
   pub more : at here.tab.lens (victim st.tab) ≢ 0
-  pub refused : (copy_one G bad (victim st.tab) here).answer ≡ Refused c
+  pub refused : (copy_one G bad (victim st.tab) here).answer ≡ Err c
   pub last : CopyEnds G bad here st' c
   pub victim_off : Off st st'
   pub kept : ContentKept G st st' ops
@@ -143,16 +143,16 @@ pub record Finished (G : Geometry) (bad : List ℕ) (st st' : State) (ops : List
 
 -- how one collection ends, by its answer
 abbrev pub PassEnds : Geometry → List ℕ → State → State → List Op → Answer → Type 0
-PassEnds G bad st st' ops (Moved m) = ((st.tab.queued ≡ 0) × (st' ≡ st) × (ops ≡ [])) ⊎ Finished G bad st st' ops
-PassEnds G bad st st' ops (Refused CopyNoRoom) = CopyRefused G bad CopyNoRoom st st' ops
-PassEnds G bad st st' ops (Refused CopyDevice) = CopyRefused G bad CopyDevice st st' ops
-PassEnds G bad st st' ops (Refused Erase) = EraseRefused G bad st st' ops
-PassEnds G bad st st' ops (Refused Wrong) = ⊥
-PassEnds G bad st st' ops (Refused Unsound) = ⊥
-PassEnds G bad st st' ops (Refused Unmapped) = ⊥
-PassEnds G bad st st' ops (Refused NoRoom) = ⊥
-PassEnds G bad st st' ops (Refused Device) = ⊥
-PassEnds G bad st st' ops (Refused (Reason r)) = ⊥
+PassEnds G bad st st' ops (Ok m) = ((st.tab.queued ≡ 0) × (st' ≡ st) × (ops ≡ [])) ⊎ Finished G bad st st' ops
+PassEnds G bad st st' ops (Err CopyNoRoom) = CopyRefused G bad CopyNoRoom st st' ops
+PassEnds G bad st st' ops (Err CopyDevice) = CopyRefused G bad CopyDevice st st' ops
+PassEnds G bad st st' ops (Err Erase) = EraseRefused G bad st st' ops
+PassEnds G bad st st' ops (Err Wrong) = ⊥
+PassEnds G bad st st' ops (Err Unsound) = ⊥
+PassEnds G bad st st' ops (Err Unmapped) = ⊥
+PassEnds G bad st st' ops (Err NoRoom) = ⊥
+PassEnds G bad st st' ops (Err Device) = ⊥
+PassEnds G bad st st' ops (Err (Reason r)) = ⊥
 
 -- "earlier passes stand": fewer than m are finished, and then comes the pass that was refused with k
 pub record Earlier (G : Geometry) (bad : List ℕ) (m : ℕ) (k : Cause) (st st' : State) (ops : List Op) : Type 0 where
@@ -163,7 +163,7 @@ pub record Earlier (G : Geometry) (bad : List ℕ) (m : ℕ) (k : Cause) (st st'
   pub behind : List Op
   pub passes : Passes G bad count st here before
   pub ops_are : ops ≡ before ++ behind
-  pub last : PassEnds G bad here st' behind (Refused k)
+  pub last : PassEnds G bad here st' behind (Err k)
   pub kept : ContentKept G st st' ops
 
 -- ---- every call
@@ -183,7 +183,7 @@ WriteLeft G bad (Reason r) st st' ops = ⊥
 -- and each call: only a write and the collections have such refusals
 abbrev pub Row : Geometry → List ℕ → Call → Cause → State → State → List Op → Type 0
 Row G bad (Write sector len d s) k st st' ops = WriteLeft G bad k st st' ops
-Row G bad (Collect s) k st st' ops = PassEnds G bad st st' ops (Refused k)
+Row G bad (Collect s) k st st' ops = PassEnds G bad st st' ops (Err k)
 Row G bad (CollectList m s) k st st' ops = Earlier G bad m k st st' ops
 Row G bad (CollectThreshold t m s) k st st' ops = (total st.tab.free ≤ t) × Earlier G bad m k st st' ops
 Row G bad Format k st st' ops = ⊥

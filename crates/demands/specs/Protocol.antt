@@ -1,8 +1,8 @@
 -- docs/USING.md, "When a checkpoint's guarantee ends": the order of calls that a unit keeps to.
 use Rattle.std.specs.Prelude.{ℕ, ◌+◌, ◌≤◌, ◌<◌, ◌≡◌, ◌⊎◌, ◌≢◌, List, [], ◌∷◌, length, take}
 use Rattle.model.specs.declared.Geometry.{Geometry}
-use Rattle.model.specs.declared.Answer.{Answer}
-use Rattle.model.specs.declared.Answer.TheVariants.{Moved, Refused}
+use Rattle.model.specs.Numbers.{Answer}
+use Rattle.model.specs.Numbers.{Ok, Err}
 use Rattle.model.specs.Numbers.{logical_page}
 use Rattle.model.specs.Causes.{kind_of, ByCopy}
 use Rattle.model.specs.Tables.{Tables, at}
@@ -32,15 +32,15 @@ Drained G r = 0 < (tab G r).queued → at (tab G r).lens (victim (tab G r)) ≡ 
 
 -- the victim erased and nothing else; nothing where there is none, or where the collection is refused, which is not by a copy
 abbrev pub Erases : Geometry → Recorder → Answer → List Op → Type 0
-Erases G r (Moved m) ops = (((tab G r).queued ≡ 0) × (ops ≡ [])) ⊎ (ops ≡ EraseSeg (victim (tab G r)) (raised G (victim (tab G r)) r.flash) ∷ [])
-Erases G r (Refused c) ops = (ByCopy (kind_of c) → ⊥) × (ops ≡ [])
+Erases G r (Ok m) ops = (((tab G r).queued ≡ 0) × (ops ≡ [])) ⊎ (ops ≡ EraseSeg (victim (tab G r)) (raised G (victim (tab G r)) r.flash) ∷ [])
+Erases G r (Err c) ops = (ByCopy (kind_of c) → ⊥) × (ops ≡ [])
 
 -- the file is what an encoding of r₀ that was not refused wrote
 pub record Saved (G : Geometry) (bad : List ℕ) (r₀ : Recorder) (file : List ℕ) : Type 0 where
   pub buffer : List ℕ
   pub scratch : List (List ℕ)
   pub size : ℕ
-  pub accepted : (run G bad (Encode buffer scratch) r₀).answer ≡ Moved size
+  pub accepted : (run G bad (Encode buffer scratch) r₀).answer ≡ Ok size
   pub is : take size (run G bad (Encode buffer scratch) r₀).left.buffer ≡ file
 
 -- The calls that the protocol allows behind a checkpoint with the map M, over tables t: reads, writes (those that drain too) and encodings; a
@@ -67,7 +67,7 @@ pub data Careful (G : Geometry) (bad : List ℕ) (r₀ : Recorder) (file : List 
   lends_fuse : {r : Recorder} → Careful G bad r₀ file r → (f : ℕ) → Careful G bad r₀ file (lit f r)
   calls : {r : Recorder} → Careful G bad r₀ file r → (c : Call) → Next G r₀ r c → Careful G bad r₀ file (after G bad c r)
   regains : {r : Recorder} → Careful G bad r₀ file r → (c : Call) → Next G r₀ r c → (i : ℕ) (f : Flash) → Cut G i (ops_of G bad c r) r.flash f
-      → (w u : List ℕ) (q : Queueing) (s : List (List ℕ)) → (run G bad (Restore q file s) (recorder w u f)).answer ≡ Moved 0
+      → (w u : List ℕ) (q : Queueing) (s : List (List ℕ)) → (run G bad (Restore q file s) (recorder w u f)).answer ≡ Ok 0
       → Careful G bad r₀ file (after G bad (Restore q file s) (recorder w u f))
 
 -- v is the first of those in xs whose key is least
@@ -87,8 +87,8 @@ pub record Shortened (G : Geometry) (k : ℕ) (r r' : Recorder) : Type 0 where
 
 -- 1 for a write that is accepted, 0 for one that is refused
 abbrev pub accepts : Answer → ℕ
-accepts (Moved m) = 1
-accepts (Refused c) = 0
+accepts (Ok m) = 1
+accepts (Err c) = 0
 
 -- Step 2, one write: while the victim has listed pages, no bytes to the last of them
 pub record DrainsNext (G : Geometry) (sector : ℕ) (r : Recorder) : Type 0 where

@@ -1,8 +1,8 @@
 -- A unit over several calls: formatted and opened, what a read shows, and what the device's own marks guard.
 use Rattle.std.specs.Prelude.{ℕ, zero, suc, ◌≡◌, ◌≢◌, List, take}
 use Rattle.model.specs.declared.Geometry.{Geometry}
-use Rattle.model.specs.declared.Answer.{Answer}
-use Rattle.model.specs.declared.Answer.TheVariants.{Moved}
+use Rattle.model.specs.Numbers.{Answer}
+use Rattle.model.specs.Numbers.{Ok}
 use Rattle.model.specs.Numbers.{flat}
 use Rattle.model.specs.Tables.{at, word_of, packed}
 use Rattle.model.specs.Sound.{Mapped}
@@ -21,12 +21,12 @@ burnt (suc k) f = burnt k (burn f)
 
 -- "Formatted flash .. is flash just formatted with no erase skipped."
 pub record Formats (G : Geometry) (r : Recorder) (o : Outcome) : Type 0 where
-  pub answer : o.answer ≡ Moved 0
+  pub answer : o.answer ≡ Ok 0
   pub unit : o.left.unit ≡ recorder r.words r.used (formatted_flash G (burnt G.n r.flash.fuse))
 
 -- "Fresh: opened from zeroed tables."
 pub record Opens (G : Geometry) (f : Flash) (o : Outcome) : Type 0 where
-  pub answer : o.answer ≡ Moved 0
+  pub answer : o.answer ≡ Ok 0
   pub unit : o.left.unit ≡ recorder (packed (fresh G)) (fresh G).used f
 
 -- what the caller of a read sees is the same: the answer, the buffer, the scratch
@@ -79,11 +79,11 @@ pub data Ever (G : Geometry) (bad : List ℕ) (r₀ : Recorder) : Recorder → T
 -- A unit from an accepted opening on, with any fuse, regained by restores of its own checkpoints, if no erase was begun in their mapped segments since.
 -- Left out are an accepted formatting, which erases under the tables, and every other accepted restore
 pub data FromOpening (G : Geometry) (bad : List ℕ) : Recorder → Type 0 where
-  opens : (r : Recorder) → (run G bad Open r).answer ≡ Moved 0 → FromOpening G bad (after G bad Open r)
+  opens : (r : Recorder) → (run G bad Open r).answer ≡ Ok 0 → FromOpening G bad (after G bad Open r)
   calls : {r : Recorder} → FromOpening G bad r → (c : Call) → Ordinary c (run G bad c r).answer → FromOpening G bad (after G bad c r)
   lends_fuse : {r : Recorder} → FromOpening G bad r → (f : ℕ) → FromOpening G bad (lit f r)
   regains : {r₀ r : Recorder} → FromOpening G bad r₀ → (buffer : List ℕ) (scratch : List (List ℕ)) (n : ℕ)
-      → (run G bad (Encode buffer scratch) r₀).answer ≡ Moved n
+      → (run G bad (Encode buffer scratch) r₀).answer ≡ Ok n
       → Ever G bad r₀ r → (q : Queueing) (s : List (List ℕ))
-      → (run G bad (Restore q (take n (run G bad (Encode buffer scratch) r₀).left.buffer) s) r).answer ≡ Moved 0
+      → (run G bad (Restore q (take n (run G bad (Encode buffer scratch) r₀).left.buffer) s) r).answer ≡ Ok 0
       → FromOpening G bad (after G bad (Restore q (take n (run G bad (Encode buffer scratch) r₀).left.buffer) s) r)

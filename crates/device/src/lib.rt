@@ -1,191 +1,131 @@
 // The flash: pages are programmed and read, segments erased and formatted. The fuse says how many operations are still done.
 #![tactic(auto)]
 
-ghost use Rattle.std.specs.Prelude.{◌≡◌, List, ℕ, ◌+◌, ◌*◌, ◌<◌, ◌≤◌, length, set, drop, replicate};
-ghost use Rattle.model.specs.Lists.{splice, slot, blank};
+ghost use Rattle.std.specs.Prelude.{◌≡◌, ◌*◌, length};
 ghost use Rattle.model.specs.Numbers.{Good};
-ghost use Rattle.model.specs.Tables.{Tables, pages};
-ghost use Rattle.model.specs.Device.{flash, burn, may_program, programmed, may_erase, erased, blanked, state, format_from};
-ghost use Rattle.model.specs.Contract.{Fit};
-ghost use Rattle.device.specs.Tried.{Tried};
+ghost use Rattle.model.specs.Tables.{pages};
 
-use model::Geometry;
+use model::{Cause, Geometry, Spot};
 
-// The bytes of xs laid into d from place at on.
-pub fn splice(d: &mut [u8], at: usize, xs: &[u8])
-    requires { at + length xs.now ≤ length d.old }
-    ensures { d.new ≡ splice at xs.now d.old }
-{
-    let mut i = 0;
-    while i < xs.len() {
-        d[at + i] = xs[i];
-        i += 1;
-    }
-}
+// "The lent device carries a fuse": the operations that it still does, 2^64-1 meaning without end.
+const ENDLESS: u64 = u64::MAX;
 
-// Every byte of d is v.
-pub fn fill(d: &mut [u8], v: u8)
-    ensures { d.new ≡ replicate (length d.old) v }
-{
-    let mut i = 0;
-    while i < d.len() {
-        d[i] = v;
-        i += 1;
-    }
-}
-
-// The bytes of page k of segment g. Reading is never refused.
-pub fn read_page(geo: Geometry, g: usize, k: usize, bytes: &[u8], page: &mut [u8])
-    requires good { Good geo }
-    requires bytes_len { length bytes.now ≡ pages geo * geo.s }
-    requires g_lt_n { (g < geo.n) × (k < geo.p) × (length page.old ≡ geo.s) }
-    ensures { page.new ≡ slot geo.s (g * geo.p + k) bytes.now }
-{
-    let a = (g * geo.p + k) * geo.s;
-    let e = a + geo.s;
-    splice(page, 0, &bytes[a..e]);
+// The flash that a caller lends, of a good geometry. Its erase counts are lent apart: a write may only look at them.
+#[derive(Drop)]
+pub struct FlashMut<'a> {
+    pub geo: Geometry,
+    pub bytes: &'a mut [u8],
+    pub marks: &'a mut [u8],
+    pub fuse: &'a mut u64,
+    pub ghost good: { Good geo },
+    pub ghost bytes_len: { length bytes.now ≡ pages geo * geo.s },
+    pub ghost marks_len: { length marks.now ≡ pages geo },
 }
 
 // One operation less, unless without end.
-fn burn(f: u64) -> u64
-    requires { 0 < f }
-    ensures { result ≡ burn f }
+fn burn(fuse: &mut u64)
+    requires { 0 < fuse.old }
+    ensures { fuse.new ≡ burn fuse.old }
 {
-    if f == 18446744073709551615 { f } else { f - 1 }
-}
-
-// Whether page k of segment g and every higher page of that segment are unmarked.
-fn clear_up(geo: Geometry, g: usize, k: usize, marks: &[u8]) -> bool
-    requires good { Good geo }
-    requires marks_len { (length marks.now ≡ pages geo) × (g < geo.n) × (k < geo.p) }
-    ensures { result ≡ blank (drop k (slot geo.p g marks.now)) }
-{
-    let p = geo.p;
-    let row = g * p;
-    let from = row + k;
-    let end = row + p;
-    sound::blank(&marks[from..end])
-}
-
-// Page k of segment g takes the bytes of page, unless its mark or that of a higher page of the segment is set, or the fuse is out.
-pub fn program(
-    geo: Geometry,
-    g: usize,
-    k: usize,
-    page: &[u8],
-    bytes: &mut [u8],
-    marks: &mut [u8],
-    fuse: &mut u64,
-) -> bool
-    requires good { Good geo }
-    requires bytes_len { (length bytes.old ≡ pages geo * geo.s) × (length marks.old ≡ pages geo) }
-    requires g_lt_n { (g < geo.n) × (k < geo.p) × (length page.now ≡ geo.s) }
-    ensures { (c : List ℕ) → Tried
-        (may_program geo g k (flash bytes.old marks.old c fuse.old))
-        (programmed geo g k page.now (flash bytes.old marks.old c fuse.old))
-        (flash bytes.old marks.old c fuse.old)
-        result (flash bytes.new marks.new c fuse.new) }
-{
-    if !clear_up(geo, g, k, marks) {
-        return false;
+    if *fuse != ENDLESS {
+        *fuse -= 1;
     }
-    let left = *fuse;
-    if left == 0 {
-        return false;
+}
+
+impl FlashMut<'_> {
+    ghost use Rattle.std.specs.Prelude.{◌<◌, List, ℕ, ◌+◌, set};
+    ghost use Rattle.model.specs.Lists.{slot};
+    ghost use Rattle.model.specs.Tables.{Tables};
+    ghost use Rattle.model.specs.Device.{flash, burn, may_program, programmed, may_erase, erased, blanked, clear_up, state, format_from};
+    ghost use Rattle.model.specs.declared.Cause.TheVariants.{Device, Erase};
+    ghost use Rattle.device.specs.Lent.{flash_of, Same};
+    ghost use Rattle.device.specs.Tried.{Tried};
+
+    // The bytes of a page. Reading is never refused.
+    pub fn read_page(&self, at: Spot, page: &mut [u8])
+        requires in_bounds { (at.segment < self.now.geo.n) × (at.page < self.now.geo.p) }
+        requires page_len { length page.old ≡ self.now.geo.s }
+        ensures { page.new ≡ slot self.now.geo.s (at.segment * self.now.geo.p + at.page) self.now.bytes.now }
+    {
+        let start = (at.segment * self.geo.p + at.page) * self.geo.s;
+        page.copy_from_slice(&self.bytes[start..start + self.geo.s]);
     }
-    let at = g * geo.p + k;
-    let a = at * geo.s;
-    let e = a + geo.s;
-    splice(&mut bytes[a..e], 0, page);
-    marks[at] = 1;
-    *fuse = burn(left);
-    true
-}
 
-// Every byte of segment g is 255 and every mark clear; what is owed to erase count and fuse is the caller's.
-fn blank_segment(geo: Geometry, g: usize, bytes: &mut [u8], marks: &mut [u8])
-    requires good { Good geo }
-    requires bytes_len { (length bytes.old ≡ pages geo * geo.s) × (length marks.old ≡ pages geo) × (g < geo.n) }
-    ensures { (c : List ℕ) (x f : ℕ) → flash bytes.new marks.new (set c g x) (burn f)
-        ≡ blanked geo g x (flash bytes.old marks.old c f) }
-{
-    let m = g * geo.p;
-    let z = m + geo.p;
-    fill(&mut marks[m..z], 0);
-    let k = geo.p * geo.s;
-    let a = g * k;
-    let e = a + k;
-    fill(&mut bytes[a..e], 255);
-}
-
-// Segment g erased and its count raised, unless it has reached the limit or the fuse is out.
-pub fn erase(
-    geo: Geometry,
-    g: usize,
-    bytes: &mut [u8],
-    marks: &mut [u8],
-    counts: &mut [u32],
-    fuse: &mut u64,
-) -> bool
-    requires good { Good geo }
-    requires fit { Fit geo (flash bytes.old marks.old counts.old fuse.old) }
-    requires g_lt_n { g < geo.n }
-    ensures { Tried
-        (may_erase geo g (flash bytes.old marks.old counts.old fuse.old))
-        (erased geo g (flash bytes.old marks.old counts.old fuse.old))
-        (flash bytes.old marks.old counts.old fuse.old)
-        result (flash bytes.new marks.new counts.new fuse.new) }
-{
-    let count = counts[g];
-    let worn = count as usize;
-    if worn >= geo.limit {
-        return false;
+    // Whether the page and every higher page of its segment are unmarked.
+    fn clear_up(&self, at: Spot) -> bool
+        requires in_bounds { (at.segment < self.now.geo.n) × (at.page < self.now.geo.p) }
+        ensures { (c : List ℕ) → result ≡ clear_up self.now.geo at.segment at.page (flash_of self.now c) }
+    {
+        let row = at.segment * self.geo.p;
+        sound::blank(&self.marks[row + at.page..row + self.geo.p])
     }
-    let left = *fuse;
-    if left == 0 {
-        return false;
-    }
-    blank_segment(geo, g, bytes, marks);
-    counts[g] = count + 1;
-    *fuse = burn(left);
-    true
-}
 
-// Segment g erased whatever its count, which becomes 0.
-fn format_segment(
-    geo: Geometry,
-    g: usize,
-    bytes: &mut [u8],
-    marks: &mut [u8],
-    counts: &mut [u32],
-    fuse: &mut u64,
-)
-    requires good { Good geo }
-    requires fit { Fit geo (flash bytes.old marks.old counts.old fuse.old) }
-    requires g_lt_n { (g < geo.n) × (0 < fuse.old) }
-    ensures { flash bytes.new marks.new counts.new fuse.new
-        ≡ blanked geo g 0 (flash bytes.old marks.old counts.old fuse.old) }
-{
-    blank_segment(geo, g, bytes, marks);
-    counts[g] = 0;
-    let left = *fuse;
-    *fuse = burn(left);
-}
-
-// Every segment formatted from 0 up, until the fuse is out: what is left is skipped.
-pub fn format(geo: Geometry, bytes: &mut [u8], marks: &mut [u8], counts: &mut [u32], fuse: &mut u64)
-    requires good { Good geo }
-    requires fit { Fit geo (flash bytes.old marks.old counts.old fuse.old) }
-    ensures { (t : Tables) → flash bytes.new marks.new counts.new fuse.new
-        ≡ (format_from geo geo.n 0 (state t (flash bytes.old marks.old counts.old fuse.old))).st.flash }
-{
-    let mut g = 0;
-    while g < geo.n {
-        let left = *fuse;
-        if left == 0 {
-            return;
+    // The page takes these bytes, unless its mark or that of a higher page of its segment is set, or the fuse is out.
+    pub fn program(&mut self, at: Spot, page: &[u8]) -> Result<(), Cause>
+        requires in_bounds { (at.segment < self.old.geo.n) × (at.page < self.old.geo.p) }
+        requires page_len { length page.now ≡ self.old.geo.s }
+        ensures same { Same self.old self.new }
+        ensures tried { (c : List ℕ) → Tried
+            (may_program self.old.geo at.segment at.page (flash_of self.old c)) Device
+            (programmed self.old.geo at.segment at.page page.now (flash_of self.old c))
+            (flash_of self.old c)
+            result (flash_of self.new c) }
+    {
+        if !self.clear_up(at) || *self.fuse == 0 {
+            return Err(Cause::Device);
         }
-        format_segment(geo, g, bytes, marks, counts, fuse);
-        g += 1;
+        let number = at.segment * self.geo.p + at.page;
+        let start = number * self.geo.s;
+        self.bytes[start..start + self.geo.s].copy_from_slice(page);
+        self.marks[number] = 1;
+        burn(self.fuse);
+        Ok(())
+    }
+
+    // Every byte of segment g is 255 and every mark clear, and the fuse is one lower; the erase count is the caller's.
+    fn blank_segment(&mut self, g: usize)
+        requires { (g < self.old.geo.n) × (0 < self.old.fuse.now) }
+        ensures same { Same self.old self.new }
+        ensures blank { (c : List ℕ) (x : ℕ) → flash_of self.new (set c g x) ≡ blanked self.old.geo g x (flash_of self.old c) }
+    {
+        let first = g * self.geo.p;
+        let end = first + self.geo.p;
+        self.marks[first..end].fill(0);
+        self.bytes[first * self.geo.s..end * self.geo.s].fill(255);
+        burn(self.fuse);
+    }
+
+    // Segment g erased and its count raised, unless it has reached the limit or the fuse is out.
+    pub fn erase(&mut self, g: usize, counts: &mut [u32]) -> Result<(), Cause>
+        requires in_bounds { (g < self.old.geo.n) × (length counts.old ≡ self.old.geo.n) }
+        ensures same { Same self.old self.new }
+        ensures tried { Tried
+            (may_erase self.old.geo g (flash_of self.old counts.old)) Erase
+            (erased self.old.geo g (flash_of self.old counts.old))
+            (flash_of self.old counts.old)
+            result (flash_of self.new counts.new) }
+    {
+        if counts[g] as usize >= self.geo.limit || *self.fuse == 0 {
+            return Err(Cause::Erase);
+        }
+        self.blank_segment(g);
+        counts[g] += 1;
+        Ok(())
+    }
+
+    // Every segment formatted from 0 up, whatever its count, until the fuse is out: what is left is skipped.
+    pub fn format(&mut self, counts: &mut [u32])
+        requires counts_len { length counts.old ≡ self.old.geo.n }
+        ensures same { Same self.old self.new }
+        ensures formatted { (t : Tables) → flash_of self.new counts.new
+            ≡ (format_from self.old.geo self.old.geo.n 0 (state t (flash_of self.old counts.old))).st.flash }
+    {
+        for g in 0..self.geo.n {
+            if *self.fuse == 0 {
+                return;
+            }
+            self.blank_segment(g);
+            counts[g] = 0;
+        }
     }
 }

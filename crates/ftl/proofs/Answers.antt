@@ -16,11 +16,11 @@ use borrow.Author.Tests.{eqb-true, eqb-false, ne_eqb}
 use Rattle.model.specs.Lists.{splice, total}
 use Rattle.model.specs.declared.Geometry.{Geometry}
 use Rattle.model.specs.declared.Numbers.{Numbers}
-use Rattle.model.specs.declared.Answer.{Answer}
-use Rattle.model.specs.declared.Answer.TheVariants.{Moved, Refused}
+use Rattle.model.specs.Numbers.{Answer}
+use Rattle.model.specs.Numbers.{Ok, Err}
 use Rattle.model.specs.declared.Cause.TheVariants.{Erase}
-use Rattle.model.specs.declared.Found.{Found}
-use Rattle.model.specs.declared.Found.TheVariants.{At, Nothing}
+use Rattle.model.specs.PageMap.{Found}
+use Rattle.model.specs.PageMap.{Some, spot, None}
 use Rattle.model.specs.Numbers.{Good, empty, seg_of, refusal, number}
 use Rattle.model.specs.Causes.{Kind, in_tests, in_read, in_write, in_copy, in_erase, in_file, kind_of, OfReason}
 use Rattle.model.specs.Tables.{Tables, at, word_of}
@@ -58,34 +58,34 @@ deed_known (in_file r) h = absurd h
 
 -- a count of at most k, or such a cause
 abbrev pub Upto : ℕ → Answer → Type 0
-Upto k (Moved m) = m ≤ k
-Upto k (Refused c) = Deed (kind_of c)
+Upto k (Ok m) = m ≤ k
+Upto k (Err c) = Deed (kind_of c)
 
 pub upto_countable : (k : ℕ) (a : Answer) → k < 9223372036854775808 → Upto k a → Countable a
-upto_countable k (Moved m) h u = omega arith
-upto_countable k (Refused c) h u = deed_known (kind_of c) u
+upto_countable k (Ok m) h u = omega arith
+upto_countable k (Err c) h u = deed_known (kind_of c) u
 
 -- the answer's number, read back from a signed word
 signed : (N : Numbers) (a : Answer) → Countable a → SFits w64 (number N a)
-signed N (Moved m) h = record { sfits = omega arith }
-signed N (Refused c) h = small (refusal N c) (refusal_small N c h)
+signed N (Ok m) h = record { sfits = omega arith }
+signed N (Err c) h = small (refusal N c) (refusal_small N c h)
 
 pub read_back : (N : Numbers) (a : Answer) → Countable a → (z : ℤ) → z ≡ number N a → to_z w64 (of_z w64 z) ≡ number N a
 read_back N a h z e = to_z-of_z w64 z (subst (SFits w64) (sym e) (signed N a h)) ∙ e
 
 upto_more : (j k : ℕ) (a : Answer) → j ≤ k → Upto j a → Upto k a
-upto_more j k (Moved m) h u = omega arith
-upto_more j k (Refused c) h u = u
+upto_more j k (Ok m) h u = omega arith
+upto_more j k (Err c) h u = u
 
 -- one after the other
 upto_then : (j k : ℕ) (a : Answer) (o : Out) (f : State → Out) → o.answer ≡ a → Upto j a → Upto k (f o.st).answer
     → Upto k (go_on a o f).answer
-upto_then j k (Moved m) o f e h r = r
-upto_then j k (Refused c) o f e h r = subst (Upto k) (sym e) h
+upto_then j k (Ok m) o f e h r = r
+upto_then j k (Err c) o f e h r = subst (Upto k) (sym e) h
 
 upto_copy : (k : ℕ) (a : Answer) → Upto k a → Upto k (copy_answer a)
-upto_copy k (Moved m) h = h
-upto_copy k (Refused c) h = kind_copied Deed (λ _ d. d) c h
+upto_copy k (Ok m) h = h
+upto_copy k (Err c) h = kind_copied Deed (λ _ d. d) c h
 
 module _ (G : Geometry) (bad : List ℕ) where
   -- ---- the answers
@@ -100,8 +100,8 @@ module _ (G : Geometry) (bad : List ℕ) where
       at_page g k false = tt
 
       go : (r : Found) → Upto (length d) (write_at G r l off d st).answer
-      go Nothing = tt
-      go (At g k) = at_page g k (may_program G g k st.flash)
+      go None = tt
+      go (Some (spot g k)) = at_page g k (may_program G g k st.flash)
 
   drain_upto : (b v : ℕ) (st : State) → Upto 0 (drain G bad b v st).answer
   unfolding drain
@@ -174,13 +174,13 @@ module _ (G : Geometry) (bad : List ℕ) where
       at_page g k false = refl
 
       go : (r : Found) → (write_at G r l off d st).st.tab.queued ≡ st.tab.queued
-      go Nothing = refl
-      go (At g k) = at_page g k (may_program G g k st.flash)
+      go None = refl
+      go (Some (spot g k)) = at_page g k (may_program G g k st.flash)
 
 queued_then : (k : ℕ) (a : Answer) (o : Out) (f : State → Out) → o.st.tab.queued ≡ k → (f o.st).st.tab.queued ≡ k
     → (go_on a o f).st.tab.queued ≡ k
-queued_then k (Moved m) o f e h = h
-queued_then k (Refused c) o f e h = e
+queued_then k (Ok m) o f e h = h
+queued_then k (Err c) o f e h = e
 
 module _ (G : Geometry) (K : Good G) (bad : List ℕ) where
   -- a drain of a full segment whose flag is set

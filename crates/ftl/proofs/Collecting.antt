@@ -8,7 +8,7 @@ use lib.ListN.{length}
 use lib.IntN.{ℤ, negsuc}
 use Rattle.model.specs.declared.Geometry.{Geometry}
 use Rattle.model.specs.declared.Numbers.{Numbers}
-use Rattle.model.specs.declared.Answer.{Answer}
+use Rattle.model.specs.Numbers.{Answer}
 use Rattle.model.specs.Lists.{every, zeros}
 use Rattle.model.specs.Numbers.{good?, number}
 use Rattle.model.specs.Tables.{view}

@@ -13,7 +13,7 @@ use Rattle.model.specs.declared.Geometry.{Geometry}
 use Rattle.model.specs.declared.Queueing.{Queueing}
 use Rattle.model.specs.declared.Numbers.TheVariants.{Old}
 use Rattle.model.specs.declared.Cause.TheVariants.{Wrong, Unsound, Reason}
-use Rattle.model.specs.declared.Answer.TheVariants.{Refused}
+use Rattle.model.specs.Numbers.{Err}
 use Rattle.model.specs.Lists.{every, splice}
 use Rattle.model.specs.Numbers.{Good, good?, number}
 use Rattle.model.specs.Tables.{Tables, at, tab_words, o_queued, pages, view}
@@ -41,20 +41,20 @@ abbrev pub restore_tests : Geometry → Lent → List Bool
 restore_tests G x = tables_fit G x ∷ clean (pages G ∷ []) x.scratch ∷ []
 
 module _ (G : Geometry) (q : Queueing) (b : List ℕ) (x : Lent) where
-  pub restoring_wrong : good? G ≡ false → Promise (restoring G q b x) x (number Old (Refused Wrong))
+  pub restoring_wrong : good? G ≡ false → Promise (restoring G q b x) x (number Old (Err Wrong))
   unfolding restoring
   restoring_wrong = bad_geometry G (restore_tests G x) true true true x _
 
-  pub restoring_size : every (restore_tests G x) ≡ false → Promise (restoring G q b x) x (number Old (Refused Wrong))
+  pub restoring_size : every (restore_tests G x) ≡ false → Promise (restoring G q b x) x (number Old (Err Wrong))
   unfolding restoring
   restoring_size = bad_size G (restore_tests G x) true true true x _
 
   module _ (g : good? G ≡ true) (e : every (restore_tests G x) ≡ true) where
-    pub restoring_reason : (k : ℕ) (r : ℤ) → k ≡ reason_of G b → k ≢ 0 → r ≡ number Old (Refused (Reason k)) → Promise (restoring G q b x) x r
+    pub restoring_reason : (k : ℕ) (r : ℤ) → k ≡ reason_of G b → k ≢ 0 → r ≡ number Old (Err (Reason k)) → Promise (restoring G q b x) x r
     unfolding restoring
     restoring_reason k r i h n =
         by (guarded_passes _ true true true x _ (all_sizes G (restore_tests G x) g e) refl refl refl ∙ unless_fails _ _ x _ (ne_eqb (reason_of G b) 0 (λ z. h (i ∙ z))))
-        (record { left_is = refl; answer_is = n ∙ ap (λ m. number Old (Refused (Reason m))) i })
+        (record { left_is = refl; answer_is = n ∙ ap (λ m. number Old (Err (Reason m))) i })
 
     pub restoring-done : reason_of G b ≡ 0 → (w u : List ℕ) (s : List (List ℕ)) → length w ≡ tab_words G → view G w u ≡ restored_by G q b → s ≡ x.scratch
         → Promise (restoring G q b x) (lent (recorder w u x.unit.flash) x.buffer s) (pos 0)
@@ -68,16 +68,16 @@ module _ (G : Geometry) (x : Lent) where
   abbrev pub encode_tests : List Bool
   encode_tests = tables_fit G x ∷ leb (file_size G) (length x.buffer) ∷ clean (seen_scratch G ∷ []) x.scratch ∷ []
 
-  pub encoding_wrong : good? G ≡ false → Promise (encoding G x) x (number Old (Refused Wrong))
+  pub encoding_wrong : good? G ≡ false → Promise (encoding G x) x (number Old (Err Wrong))
   unfolding encoding
   encoding_wrong = bad_geometry G encode_tests _ true true x _
 
-  pub encoding_size : every encode_tests ≡ false → Promise (encoding G x) x (number Old (Refused Wrong))
+  pub encoding_size : every encode_tests ≡ false → Promise (encoding G x) x (number Old (Err Wrong))
   unfolding encoding
   encoding_size = bad_size G encode_tests _ true true x _
 
   module _ (g : good? G ≡ true) (e : every encode_tests ≡ true) (s : List (List ℕ)) (q : s ≡ x.scratch) where
-    pub encoding_unsound : soundb G (tables_of G x) ≡ false → Promise (encoding G x) (lent x.unit x.buffer s) (number Old (Refused Unsound))
+    pub encoding_unsound : soundb G (tables_of G x) ≡ false → Promise (encoding G x) (lent x.unit x.buffer s) (number Old (Err Unsound))
     unfolding encoding
     encoding_unsound h =
         by (guarded_sound _ _ true true x _ (all_sizes G encode_tests g e) h)

@@ -11,7 +11,7 @@ use Rattle.model.specs.declared.Geometry.{Geometry}
 use Rattle.model.specs.declared.Numbers.{Numbers}
 use Rattle.model.specs.declared.Cause.{Cause}
 use Rattle.model.specs.declared.Cause.TheVariants.{Wrong}
-use Rattle.model.specs.declared.Answer.TheVariants.{Refused}
+use Rattle.model.specs.Numbers.{Err}
 use Rattle.model.specs.Numbers.{good?, number}
 use Rattle.model.specs.Entry.{Lent, Outcome, PromiseIn, refused, unless, guarded, clean}
 use Rattle.model.proofs.Refusals.{promised, guarded_sizes}
@@ -42,11 +42,11 @@ module _ (G : Geometry) (ts : List Bool) where
 
   module _ (b c d : Bool) (x : Lent) (o : Outcome) where
     -- refused for the geometry, and for a size
-    pub bad_geometry : {N : Numbers} → good? G ≡ false → PromiseIn N (guarded (every (good? G ∷ ts)) b c d x o) x (number N (Refused Wrong))
+    pub bad_geometry : {N : Numbers} → good? G ≡ false → PromiseIn N (guarded (every (good? G ∷ ts)) b c d x o) x (number N (Err Wrong))
     unfolding every
     bad_geometry e = by (guarded_sizes (every (good? G ∷ ts)) b c d x o (rw e)) (promised refl)
 
-    pub bad_size : {N : Numbers} → every ts ≡ false → PromiseIn N (guarded (every (good? G ∷ ts)) b c d x o) x (number N (Refused Wrong))
+    pub bad_size : {N : Numbers} → every ts ≡ false → PromiseIn N (guarded (every (good? G ∷ ts)) b c d x o) x (number N (Err Wrong))
     bad_size e = by (guarded_sizes (every (good? G ∷ ts)) b c d x o (not_sizes e)) (promised refl)
 
 -- clean scratch is zeros

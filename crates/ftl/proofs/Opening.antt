@@ -9,7 +9,7 @@ use Rattle.model.specs.Lists.{every}
 use Rattle.model.specs.declared.Geometry.{Geometry}
 use Rattle.model.specs.declared.Numbers.TheVariants.{Old}
 use Rattle.model.specs.declared.Cause.TheVariants.{Wrong}
-use Rattle.model.specs.declared.Answer.TheVariants.{Refused}
+use Rattle.model.specs.Numbers.{Err}
 use Rattle.model.specs.Numbers.{good?, number}
 use Rattle.model.specs.Tables.{Tables, tab_words, view, packed}
 use Rattle.model.specs.Device.{Flash, format_from}
@@ -34,11 +34,11 @@ one_test true = refl
 one_test false = refl
 
 module _ (G : Geometry) (x : Lent) where
-  pub opening_wrong : good? G ≡ false → Promise (opening G x) x (number Old (Refused Wrong))
+  pub opening_wrong : good? G ≡ false → Promise (opening G x) x (number Old (Err Wrong))
   unfolding opening
   opening_wrong = bad_geometry G (tables_fit G x ∷ []) true true true x _
 
-  pub opening_size : tables_fit G x ≡ false → Promise (opening G x) x (number Old (Refused Wrong))
+  pub opening_size : tables_fit G x ≡ false → Promise (opening G x) x (number Old (Err Wrong))
   unfolding opening
   opening_size e = bad_size G (tables_fit G x ∷ []) true true true x _ (one_test (tables_fit G x) ∙ e)
 
@@ -49,11 +49,11 @@ module _ (G : Geometry) (x : Lent) where
       by (guarded_passes _ true true true x _ (all_sizes G (tables_fit G x ∷ []) g (one_test (tables_fit G x) ∙ e)) refl refl refl)
       (record { left_is = cc (words_are G w u _ h v, marks_are G w u _ h v); answer_is = refl })
 
-  pub formatting_wrong : good? G ≡ false → Promise (formatting G x) x (number Old (Refused Wrong))
+  pub formatting_wrong : good? G ≡ false → Promise (formatting G x) x (number Old (Err Wrong))
   unfolding formatting
   formatting_wrong = bad_geometry G (flash_fits G x.unit.flash ∷ []) true true true x _
 
-  pub formatting_size : flash_fits G x.unit.flash ≡ false → Promise (formatting G x) x (number Old (Refused Wrong))
+  pub formatting_size : flash_fits G x.unit.flash ≡ false → Promise (formatting G x) x (number Old (Err Wrong))
   unfolding formatting
   formatting_size e = bad_size G (flash_fits G x.unit.flash ∷ []) true true true x _ (one_test (flash_fits G x.unit.flash) ∙ e)
 

@@ -8,7 +8,7 @@ use lib.ListN.{length}
 use borrow.Author.Tests.{eqb-true}
 use Rattle.model.specs.Lists.{blank, zeros}
 use Rattle.model.specs.declared.Geometry.{Geometry}
-use Rattle.model.specs.declared.Answer.{Answer}
+use Rattle.model.specs.Numbers.{Answer}
 use Rattle.model.specs.Numbers.{Good, good?}
 use Rattle.model.specs.Tables.{tab_words, pages, view, packed}
 use Rattle.model.specs.Sound.{soundb}

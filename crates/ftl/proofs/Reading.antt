@@ -12,7 +12,7 @@ use borrow.Author.Tests.{eq-eqb, ne_eqb, lt-ltb, le-ltb, le-leb, lt-leb}
 use Rattle.model.specs.declared.Geometry.{Geometry}
 use Rattle.model.specs.declared.Numbers.TheVariants.{Old}
 use Rattle.model.specs.declared.Cause.TheVariants.{Wrong, Unsound, Unmapped}
-use Rattle.model.specs.declared.Answer.TheVariants.{Refused}
+use Rattle.model.specs.Numbers.{Err}
 use Rattle.model.specs.Lists.{every, slot, splice}
 use Rattle.model.specs.Numbers.{good?, empty, flat, logical_page, offset, number}
 use Rattle.model.specs.Tables.{word_of, pages}
@@ -50,11 +50,11 @@ module _ (G : Geometry) (sector len : ℕ) (x : Lent) where
   abbrev pub word_read : ℕ
   word_read = word_of (tables_of G x) (logical_page G sector)
 
-  pub read_wrong : good? G ≡ false → Promise (read G sector len x) x (number Old (Refused Wrong))
+  pub read_wrong : good? G ≡ false → Promise (read G sector len x) x (number Old (Err Wrong))
   unfolding read
   read_wrong = bad_geometry G read_tests _ _ _ x _
 
-  pub read_size : every read_tests ≡ false → Promise (read G sector len x) x (number Old (Refused Wrong))
+  pub read_size : every read_tests ≡ false → Promise (read G sector len x) x (number Old (Err Wrong))
   unfolding read
   read_size = bad_size G read_tests _ _ _ x _
 
@@ -71,24 +71,24 @@ module _ (G : Geometry) (sector len : ℕ) (x : Lent) where
       back : lent x.unit x.buffer s ≡ x
       back = ap (lent x.unit x.buffer) q
 
-      pub read_unsound : soundb G (tables_of G x) ≡ false → Promise (read G sector len x) (lent x.unit x.buffer s) (number Old (Refused Unsound))
+      pub read_unsound : soundb G (tables_of G x) ≡ false → Promise (read G sector len x) (lent x.unit x.buffer s) (number Old (Err Unsound))
       unfolding read
       read_unsound h = by (guarded_sound _ _ _ _ x _ (all_sizes G read_tests g e) h) (record { left_is = back; answer_is = refl })
 
       module _ (h : soundb G (tables_of G x) ≡ true) where
-        pub read_page : G.e ≤ logical_page G sector → Promise (read G sector len x) (lent x.unit x.buffer s) (number Old (Refused Wrong))
+        pub read_page : G.e ≤ logical_page G sector → Promise (read G sector len x) (lent x.unit x.buffer s) (number Old (Err Wrong))
         unfolding read
         read_page l =
             by (guarded_page _ _ _ _ x _ (all_sizes G read_tests g e) h (le-ltb _ _ l)) (record { left_is = back; answer_is = refl })
 
         module _ (l : logical_page G sector < G.e) where
-          pub read_overrun : G.s < offset G sector + len → Promise (read G sector len x) (lent x.unit x.buffer s) (number Old (Refused Wrong))
+          pub read_overrun : G.s < offset G sector + len → Promise (read G sector len x) (lent x.unit x.buffer s) (number Old (Err Wrong))
           unfolding read
           read_overrun o =
               by (guarded_overrun _ _ _ _ x _ (all_sizes G read_tests g e) h (lt-ltb _ _ l) (lt-leb _ _ o)) (record { left_is = back; answer_is = refl })
 
           module _ (o : offset G sector + len ≤ G.s) where
-            pub read_unmapped : word_read ≡ empty → Promise (read G sector len x) (lent x.unit x.buffer s) (number Old (Refused Unmapped))
+            pub read_unmapped : word_read ≡ empty → Promise (read G sector len x) (lent x.unit x.buffer s) (number Old (Err Unmapped))
             unfolding read
             read_unmapped m =
                 by

@@ -12,9 +12,9 @@ use lib.Seq.{length-take-le}
 use borrow.Author.Tests.{le-leb, lt-leb, leb-true}
 use Rattle.model.specs.declared.Geometry.{Geometry}
 use Rattle.model.specs.declared.Numbers.{Numbers}
-use Rattle.model.specs.declared.Answer.{Answer}
+use Rattle.model.specs.Numbers.{Answer}
 use Rattle.model.specs.declared.Cause.{Cause}
-use Rattle.model.specs.declared.Answer.TheVariants.{Refused}
+use Rattle.model.specs.Numbers.{Err}
 use Rattle.model.specs.declared.Cause.TheVariants.{Wrong, Unsound}
 use Rattle.model.specs.Lists.{every, zeros}
 use Rattle.model.specs.Numbers.{good?, logical_page, offset, number}
@@ -124,11 +124,11 @@ module _ (G : Geometry) (bad : List ℕ) (x : Recorder) (page seen : List ℕ) (
       h)
 
   -- a refusal that changes nothing
-  stays : {N : Numbers} (k : Cause) (z : ℤ) → z ≡ number N (Refused k) → entry ≡ refused k given → PromiseIn N entry given z
+  stays : {N : Numbers} (k : Cause) (z : ℤ) → z ≡ number N (Err k) → entry ≡ refused k given → PromiseIn N entry given z
   stays {N} k z e q = subst (λ (y : Outcome). PromiseIn N y given z) (sym q) (promised e)
 
   -- the same after the soundness test, which hands its scratch back as it was
-  stays_seen : {N : Numbers} → Pass → (seen' : List ℕ) → seen' ≡ zeros (G.n + G.p) → (k : Cause) (z : ℤ) → z ≡ number N (Refused k) → entry ≡ refused k given
+  stays_seen : {N : Numbers} → Pass → (seen' : List ℕ) → seen' ≡ zeros (G.n + G.p) → (k : Cause) (z : ℤ) → z ≡ number N (Err k) → entry ≡ refused k given
       → PromiseIn N entry (lent x [] (page ∷ seen' ∷ [])) z
   stays_seen {N} P seen' s k z e q =
       subst (λ (y : List ℕ). PromiseIn N entry (lent x [] (page ∷ y ∷ [])) z) (P.seen_clean ∙ sym s) (stays k z e q)

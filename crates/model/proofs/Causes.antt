@@ -1,6 +1,6 @@
 -- Laws of the kinds of refusals.
 use Prim.Native.Nat.{ℕ}
-use Rattle.model.specs.Numbers.{Answer, Moved, Refused, Cause, Wrong, Unsound, Unmapped, NoRoom, Device, CopyNoRoom, CopyDevice, Erase, Reason}
+use Rattle.model.specs.Numbers.{Answer, Ok, Err, Cause, Wrong, Unsound, Unmapped, NoRoom, Device, CopyNoRoom, CopyDevice, Erase, Reason}
 use Rattle.model.specs.Causes.{Failing, for_room, at_device, Kind, in_tests, in_read, in_write, in_copy, in_erase, in_file, kind_of, OfReason, ReasonsIn}
 use Rattle.model.specs.PageGc.{of_copy}
 
@@ -25,5 +25,5 @@ of_reason h in_erase p = p
 of_reason h (in_file r) p = h r p
 
 pub reasons_in : {P Q : ℕ → Type 0} → ((r : ℕ) → P r → Q r) → (a : Answer) → ReasonsIn P a → ReasonsIn Q a
-reasons_in h (Moved m) p = p
-reasons_in h (Refused c) p = of_reason h (kind_of c) p
+reasons_in h (Ok m) p = p
+reasons_in h (Err c) p = of_reason h (kind_of c) p

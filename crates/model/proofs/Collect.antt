@@ -10,7 +10,7 @@ use lib.ListN.{length, get_or}
 use lib.Seq.{get_or-set_other}
 use borrow.Author.Tests.{eqb-true, eqb-false}
 use Rattle.model.specs.Lists.{occ, total}
-use Rattle.model.specs.Numbers.{Geometry, Good, Answer, Moved, Refused, Erase, empty, seg_of}
+use Rattle.model.specs.Numbers.{Geometry, Good, Answer, Ok, Err, Erase, empty, seg_of}
 use Rattle.model.specs.Tables.{Tables, at, word_of, queue_of}
 use Rattle.model.specs.Sound.{Mapped, slot_of}
 use Rattle.model.specs.Device.{State, state, Out, out, may_erase, perform_all, finish, refuse, behind, go_on, raised}
@@ -62,8 +62,8 @@ kept_answer G st o a k = search
 
 -- a drained list is empty, unless a copy was refused
 abbrev pub Emptied : Tables → ℕ → Answer → Type 0
-Emptied t v (Moved m) = at t.lens v ≡ 0
-Emptied t v (Refused r) = Unit {0}
+Emptied t v (Ok m) = at t.lens v ≡ 0
+Emptied t v (Err r) = Unit {0}
 
 pub record Drained (G : Geometry) (v : ℕ) (st : State) (o : Out) : Type 0 where
   pub kept : Kept G st o
@@ -98,11 +98,11 @@ module _ (G : Geometry) (K : Good G) (bad : List ℕ) (v : ℕ) (seg : v < G.n) 
 
     -- of the page copied itself: what it held is what was written
     own_same : (a : Answer) → Own G st o.st l 0 (whole G st l) a → content G o.st l ≡ content G st l
-    own_same (Moved k) own =
+    own_same (Ok k) own =
         own.1
         ∙ ap holds (whole-splice (whole G st l) (old_page G st l) (length_whole ∙ sym (old_length G K st S F l)))
         ∙ sym (content_mapped G st l m)
-    own_same (Refused r) own = own
+    own_same (Err r) own = own
 
     pub copied : Kept G st o
     copied =
@@ -120,7 +120,7 @@ module _ (G : Geometry) (K : Good G) (bad : List ℕ) (v : ℕ) (seg : v < G.n) 
 
   drained_none : (st : State) → at st.tab.lens v ≡ 0 → Draining st (finish 0 st)
   drained_none st e S F z f =
-      record { kept = kept_none G st (Moved 0) S F; busy = record { full = z; flagged = f; queue = refl }; emptied = e }
+      record { kept = kept_none G st (Ok 0) S F; busy = record { full = z; flagged = f; queue = refl }; emptied = e }
 
   -- a copy, and if it was no refusal, the rest
   drained_more : (st : State) (rest : State → Out) → at st.tab.lens v ≢ 0
@@ -136,9 +136,9 @@ module _ (G : Geometry) (K : Good G) (bad : List ℕ) (v : ℕ) (seg : v < G.n) 
 
       go : (a : Answer) → Shorter G st st' (l st S F some) v a
           → Drained G v st (go_on (copy_answer a) (out st' (copy_answer a) (o st S F some).ops) rest)
-      go (Refused r) less =
+      go (Err r) less =
           record { kept = kept_answer G st (o st S F some) _ (copied st S F some); busy = B; emptied = tt }
-      go (Moved k) less =
+      go (Ok k) less =
           let I : Drained G v st' (rest st') =
           ih st' (less (m st S F some) (last_in G v seg st.tab S some).1) (W st S F some).sound (W st S F some).fit B.full B.flagged in
           record {
@@ -165,7 +165,7 @@ module _ (G : Geometry) (K : Good G) (bad : List ℕ) (v : ℕ) (seg : v < G.n) 
   finished st S F bare off = go (may_erase G v st.flash)
     where
       go : (b : Bool) → Kept G st (cond b (cleared G v st) (refuse Erase st))
-      go false = kept_none G st (Refused Erase) S F
+      go false = kept_none G st (Err Erase) S F
       go true =
           record {
             sound = reset_sound G st.tab S v seg bare off;
@@ -216,10 +216,10 @@ module _ (G : Geometry) (K : Good G) (bad : List ℕ) (st : State) (S : Counted 
         search same
 
     then : (a : Answer) → Emptied d.st.tab v a → Kept G st (go_on a d (λ st'. finish_of G v st'))
-    then (Moved m) bare =
+    then (Ok m) bare =
         kept-behind G st d _ first
         (finished G K bad v seg d.st D.kept.sound D.kept.fit bare (D.busy.queue ∙ victim_off G st.tab S some))
-    then (Refused r) _ = first
+    then (Err r) _ = first
 
     collected_of : Kept G st (collect_of G bad v st)
     unfolding collect_of
@@ -230,13 +230,13 @@ module _ (G : Geometry) (K : Good G) (bad : List ℕ) (st : State) (S : Counted 
   collected = go (eqb st.tab.queued 0) refl
     where
       go : (b : Bool) → eqb st.tab.queued 0 ≡ b → Kept G st (cond b (finish 0 st) (collect_of G bad (victim st.tab) st))
-      go true e = kept_none G st (Moved 0) S F
+      go true e = kept_none G st (Ok 0) S F
       go false e = let n : st.tab.queued ≢ 0 = eqb-false _ _ e in collected_of (omega arith)
 
 module _ (G : Geometry) (K : Good G) (bad : List ℕ) where
   collected_more : (m c : ℕ) (st : State) → Counted G st.tab → Fit G st.flash → Kept G st (collect_more G bad m c st)
   unfolding collect_more
-  collected_more zero c st S F = kept_none G st (Moved c) S F
+  collected_more zero c st S F = kept_none G st (Ok c) S F
   collected_more (suc m) c st S F = go o.answer (λ st' S' F'. collected_more m (suc c) st' S' F')
     where
       o : Out
@@ -247,13 +247,13 @@ module _ (G : Geometry) (K : Good G) (bad : List ℕ) where
 
       next : (b : Bool) → Kept G o.st (collect_more G bad m (suc c) o.st)
           → Kept G st (behind o.ops (cond b (finish c o.st) (collect_more G bad m (suc c) o.st)))
-      next true I = kept-behind G st o _ C (kept_none G o.st (Moved c) C.sound C.fit)
+      next true I = kept-behind G st o _ C (kept_none G o.st (Ok c) C.sound C.fit)
       next false I = kept-behind G st o _ C I
 
       go : (a : Answer) → ((st' : State) → Counted G st'.tab → Fit G st'.flash → Kept G st' (collect_more G bad m (suc c) st'))
           → Kept G st (go_on a o (λ t. cond (eqb t.tab.queued 0) (finish c t) (collect_more G bad m (suc c) t)))
-      go (Moved k) ih = next (eqb o.st.tab.queued 0) (ih o.st C.sound C.fit)
-      go (Refused r) ih = C
+      go (Ok k) ih = next (eqb o.st.tab.queued 0) (ih o.st C.sound C.fit)
+      go (Err r) ih = C
 
   pub collected_list : (m : ℕ) (st : State) → Counted G st.tab → Fit G st.flash → Kept G st (collect_list G bad m st)
   unfolding collect_list
@@ -265,5 +265,5 @@ module _ (G : Geometry) (K : Good G) (bad : List ℕ) where
   collected_threshold threshold m st S F = go (ltb threshold (total st.tab.free))
     where
       go : (b : Bool) → Kept G st (cond b (finish 0 st) (collect_list G bad m st))
-      go true = kept_none G st (Moved 0) S F
+      go true = kept_none G st (Ok 0) S F
       go false = collected_list m st S F

@@ -10,7 +10,7 @@ use lib.Dec.{leb, eqb}
 use lib.ListN.{length, get_or, take}
 use borrow.Author.Tests.{eq-eqb}
 use Rattle.model.specs.Lists.{every, zeros}
-use Rattle.model.specs.Numbers.{Geometry, Good, good?, Moved, Refused, empty, endless, page_of}
+use Rattle.model.specs.Numbers.{Answer, Cause, Geometry, Good, good?, Ok, Err, empty, endless, page_of}
 use Rattle.model.specs.Tables.{Tables, tab_words, pages}
 use Rattle.model.specs.Device.{Flash, Op, state, page_at, perform_all}
 use Rattle.model.specs.PageWrite.{content}
@@ -40,10 +40,10 @@ pub record Encoded (G : Geometry) (x : Lent) (m : ℕ) (buffer : List ℕ) : Typ
   pub counted : Counted G (tables_of G x)
   pub file : take m buffer ≡ sealed G (tables_of G x)
 
-pub encoded : (G : Geometry) (x : Lent) (m : ℕ) → (encoding G x).answer ≡ Moved m → Encoded G x m (encoding G x).left.buffer
+pub encoded : (G : Geometry) (x : Lent) (m : ℕ) → (encoding G x).answer ≡ Ok m → Encoded G x m (encoding G x).left.buffer
 unfolding encoding
 encoded G x m =
-    guarded_by (λ y. y.answer ≡ Moved m → Result y) _ _ _ _ x _ (λ e. absurd (no e)) (λ e. absurd (no e))
+    guarded_by (λ y. y.answer ≡ Ok m → Result y) _ _ _ _ x _ (λ e. absurd (no e)) (λ e. absurd (no e))
     (λ a b _ _ e.
     let t : (i : ℕ) → _ = each (good? G ∷ tables_fit G x ∷ leb (file_size G) (length x.buffer) ∷ clean (seen_scratch G ∷ []) x.scratch ∷ []) a in
     let K : Good G = good_test G (t 0) in
@@ -60,10 +60,10 @@ encoded G x m =
     Result : Outcome → Type 0
     Result y = Encoded G x m y.left.buffer
 
-    no : {c : _} → Refused c ≡ Moved m → ⊥
+    no : {c : Cause} → ◌≡◌ {A = Answer} (Err c) (Ok m) → ⊥
     no e = let z : ◌≡◌ {A = ℕ} 0 1 = cc in omega arith
 
-    length_is : Moved (file_size G) ≡ Moved m → m ≡ file_size G
+    length_is : ◌≡◌ {A = Answer} (Ok (file_size G)) (Ok m) → m ≡ file_size G
     length_is e = cc
 
 module _ (G : Geometry) (bad : List ℕ) (r₀ : Recorder) (K : Good G) (S₀ : Counted G (tab G r₀)) where
@@ -222,7 +222,7 @@ module _ (G : Geometry) (bad : List ℕ) (r₀ : Recorder) (K : Good G) (S₀ : 
       subst (λ c. Spares G M (take (suc i) (ops_of G bad c r)) → Cut G i (ops_of G bad c r) r.flash f → Pages f) (sym q) (formatted_cut r i f P) e k
   cut_inv lost c r i f P (inr q) e k = subst Pages (sym (subst (λ os. Cut G i os r.flash f) q k)) P
 
-  regained_still : (q : Queueing) (r : Recorder) (s : List (List ℕ)) (o : Outcome) → Pages r.flash → o.answer ≡ Moved 0
+  regained_still : (q : Queueing) (r : Recorder) (s : List (List ℕ)) (o : Outcome) → Pages r.flash → o.answer ≡ Ok 0
       → Stayed (lent r [] s) o ⊎ Begun G r (restored_by G q file) o → Still o.left.unit
   regained_still q r s o P e (inl y) = absurd (let z : ◌≡◌ {A = ℕ} 0 1 = cc in omega arith)
   regained_still q r s o P e (inr y) = restored_still q r o P y
@@ -281,7 +281,7 @@ module _ (G : Geometry) (bad : List ℕ) (r₀ : Recorder) (K : Good G) (S₀ : 
 -- Demand 3, second half. A checkpoint was taken of r₀: the encoding was not refused. Whatever was done since, as `Since` says, and wherever
 -- the power went, restoring the file that the encoding wrote, over tables of the right size that hold anything, gives back each page.
 pub cut_restores : (G : Geometry) (bad : List ℕ) (r₀ : Recorder) (buffer : List ℕ) (scratch : List (List ℕ)) (m : ℕ)
-    → (run G bad (Encode buffer scratch) r₀).answer ≡ Moved m
+    → (run G bad (Encode buffer scratch) r₀).answer ≡ Ok m
     → {r : Recorder} → Since G bad r₀ (take m (run G bad (Encode buffer scratch) r₀).left.buffer) lost r
     → length r.words ≡ tab_words G → length r.used ≡ pages G
     → (q : Queueing) → GivesBack G bad r₀ (take m (run G bad (Encode buffer scratch) r₀).left.buffer) q r

@@ -10,7 +10,7 @@ use lib.Dec.{ltb, leb, eqb}
 use lib.ListN.{length, take}
 use lib.Seq.{take-nil, length-take-le}
 use borrow.Author.Tests.{ltb-true, leb-true, eqb-true}
-use Rattle.model.specs.Numbers.{Geometry, Good, good?, Moved, Cause, Wrong, Unsound, Reason, endless, flat, logical_page, offset}
+use Rattle.model.specs.Numbers.{Geometry, Good, good?, Ok, Cause, Wrong, Unsound, Reason, endless, flat, logical_page, offset}
 use Rattle.model.specs.Tables.{Tables, word_of, tab_words, pages, view, packed}
 use Rattle.model.specs.Sound.{Sound, SoundTables, soundb, Mapped}
 use Rattle.model.specs.Device.{Flash, Op, state, Out, perform_all, format_from}
@@ -250,7 +250,7 @@ pub record Begun (G : Geometry) (r : Recorder) (t : Tables) (o : Outcome) : Type
   pub good : Good G
   pub counted : Counted G t
   pub unit : o.left.unit ≡ recorder (packed t) t.used r.flash
-  pub answer : o.answer ≡ Moved 0
+  pub answer : o.answer ≡ Ok 0
   pub ops : o.ops ≡ []
 
 pub record Stayed (x : Lent) (o : Outcome) : Type 0 where
@@ -283,12 +283,12 @@ restored_or G q b x =
     (λ e. inr (record { good = K; counted = accepted_by G q b (eqb-true _ _ e) K; unit = refl; answer = refl; ops = refl })))
 
 -- a restore that is not refused had a file without a reason
-pub restored_passes : (G : Geometry) (q : Queueing) (b : List ℕ) (x : Lent) → (restoring G q b x).answer ≡ Moved 0 → reason_of G b ≡ 0
+pub restored_passes : (G : Geometry) (q : Queueing) (b : List ℕ) (x : Lent) → (restoring G q b x).answer ≡ Ok 0 → reason_of G b ≡ 0
 unfolding restoring
 restored_passes G q b x =
-    guarded_by (λ y. y.answer ≡ Moved 0 → reason_of G b ≡ 0) _ _ _ _ x _ (λ e. absurd (let z : ◌≡◌ {A = ℕ} 0 1 = cc in omega arith))
+    guarded_by (λ y. y.answer ≡ Ok 0 → reason_of G b ≡ 0) _ _ _ _ x _ (λ e. absurd (let z : ◌≡◌ {A = ℕ} 0 1 = cc in omega arith))
     (λ e. absurd (let z : ◌≡◌ {A = ℕ} 0 1 = cc in omega arith))
-    (λ _ _ _ _. unless_by (λ y. y.answer ≡ Moved 0 → reason_of G b ≡ 0) (eqb (reason_of G b) 0) (Reason (reason_of G b)) x _
+    (λ _ _ _ _. unless_by (λ y. y.answer ≡ Ok 0 → reason_of G b ≡ 0) (eqb (reason_of G b) 0) (Reason (reason_of G b)) x _
     (λ e. absurd (let z : ◌≡◌ {A = ℕ} 0 1 = cc in omega arith)) (λ e _. eqb-true _ _ e))
 
 begun_sound : (G : Geometry) (r : Recorder) (t : Tables) (o : Outcome) → Begun G r t o → SoundIn G o.left.unit
@@ -300,11 +300,11 @@ module _ (G : Geometry) (x : Lent) (t : Tables) (o : Outcome) where
   or_sound (inl s) S = subst (λ y. SoundIn G y.left.unit) (sym s.is) S
   or_sound (inr b) S = begun_sound G x.unit t o b
 
-  pub or_begun : Stayed x o ⊎ Begun G x.unit t o → o.answer ≡ Moved 0 → Begun G x.unit t o
+  pub or_begun : Stayed x o ⊎ Begun G x.unit t o → o.answer ≡ Ok 0 → Begun G x.unit t o
   or_begun (inl s) e = absurd (let z : ◌≡◌ {A = ℕ} 0 1 = cc in omega arith)
   or_begun (inr b) e = b
 
-  or_answered : Stayed x o ⊎ Begun G x.unit t o → o.answer ≡ Moved 0 → SoundIn G o.left.unit
+  or_answered : Stayed x o ⊎ Begun G x.unit t o → o.answer ≡ Ok 0 → SoundIn G o.left.unit
   or_answered b e = begun_sound G x.unit t o (or_begun b e)
 
   pub or_flash : Stayed x o ⊎ Begun G x.unit t o → (o.left.unit.flash ≡ x.unit.flash) × (o.ops ≡ [])

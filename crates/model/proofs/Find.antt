@@ -10,7 +10,7 @@ use lib.Dec.{eqb, ltb}
 use borrow.Author.Tests.{eqb-true, eq-eqb, ltb-true, ltb-false}
 use Rattle.model.specs.Numbers.{Geometry, Good}
 use Rattle.model.specs.Tables.{Tables, at}
-use Rattle.model.specs.PageMap.{At, Found, Nothing, clear_from, find, find_from, or_else, usable}
+use Rattle.model.specs.PageMap.{Some, spot, Found, None, clear_from, find, find_from, or_else, usable}
 use Rattle.model.proofs.Working.{Counted}
 use Rattle.model.proofs.Slots.{same?, less?}
 use Rattle.model.proofs.Tests.{both}
@@ -22,26 +22,26 @@ module _ (G : Geometry) (K : Good G) (t : Tables) (S : Counted G t) where
 
   -- of a segment that has a free page, the first free one is the first whose mark is clear
   clear_at : (g : ℕ) → g < G.n → 0 < at t.free g → (f k : ℕ) → k + f ≡ G.p → k + at t.free g ≤ G.p
-      → clear_from G t.used g k f ≡ At g (first_of g)
+      → clear_from G t.used g k f ≡ Some (spot g (first_of g))
   unfolding clear_from
   clear_at g hg hf zero k e h = absurd (omega arith)
   clear_at g hg hf (suc f) k e h = go (less? (k + at t.free g) G.p) (λ m. clear_at g hg hf f (suc k) (omega arith) m)
     where
       Goal : Bool → Type 0
-      Goal b = cond b (At g k) (clear_from G t.used g (suc k) f) ≡ At g (first_of g)
+      Goal b = cond b (Some (spot g k)) (clear_from G t.used g (suc k) f) ≡ Some (spot g (first_of g))
 
       go : (k + at t.free g < G.p) ⊎ (G.p ≤ k + at t.free g)
-          → (suc k + at t.free g ≤ G.p → clear_from G t.used g (suc k) f ≡ At g (first_of g))
+          → (suc k + at t.free g ≤ G.p → clear_from G t.used g (suc k) f ≡ Some (spot g (first_of g)))
           → Goal (eqb (at t.used (g * G.p + k)) 0)
       go (inl b) ih = rw (S.marked g k hg b) (ih (omega arith))
       go (inr b) ih =
           let q : k ≡ first_of g = omega arith in
-          rw (S.clear g k hg (omega arith) b) (ap (At g) q)
+          rw (S.clear g k hg (omega arith) b) (ap (λ x. Some (spot g x)) q)
 
   -- page found: the first free one of a segment that is not bad
   pub record Free (bad : List ℕ) (r : Found) : Type 0 where
     pub seg : ℕ
-    pub is : r ≡ At seg (first_of seg)
+    pub is : r ≡ Some (spot seg (first_of seg))
     pub next : Next G t seg (first_of seg)
     pub good : at bad seg ≡ 0
 
@@ -54,11 +54,11 @@ module _ (G : Geometry) (K : Good G) (t : Tables) (S : Counted G t) where
   abbrev NoneOf : List ℕ → ℕ → ℕ → Type 0
   NoneOf bad f i = (x : ℕ) → i ≤ x → x < i + f → usable G bad t ((t.alloc + x) % G.n) ≡ false
 
-  pub record None (bad : List ℕ) (f i : ℕ) (r : Found) : Type 0 where
-    pub is : r ≡ Nothing
+  pub record Nowhere (bad : List ℕ) (f i : ℕ) (r : Found) : Type 0 where
+    pub is : r ≡ None
     pub none : NoneOf bad f i
 
-  found_from : (bad : List ℕ) (f i : ℕ) → None bad f i (find_from G bad t i f) ⊎ Free bad (find_from G bad t i f)
+  found_from : (bad : List ℕ) (f i : ℕ) → Nowhere bad f i (find_from G bad t i f) ⊎ Free bad (find_from G bad t i f)
   unfolding find_from
   found_from bad zero i = inl (record { is = refl; none = λ x a b. absurd (omega arith) })
   found_from bad (suc f) i = go (usable G bad t g) refl (found_from bad f (suc i))
@@ -79,8 +79,8 @@ module _ (G : Geometry) (K : Good G) (t : Tables) (S : Counted G t) where
           step (inl e) = ap (λ z. usable G bad t ((t.alloc + z) % G.n)) e ∙ u
           step (inr n) = h x (omega arith) (omega arith)
 
-      go : (b : Bool) → usable G bad t g ≡ b → None bad f (suc i) (find_from G bad t (suc i) f) ⊎ Free bad (find_from G bad t (suc i) f)
-          → None bad (suc f) i (out b) ⊎ Free bad (out b)
+      go : (b : Bool) → usable G bad t g ≡ b → Nowhere bad f (suc i) (find_from G bad t (suc i) f) ⊎ Free bad (find_from G bad t (suc i) f)
+          → Nowhere bad (suc f) i (out b) ⊎ Free bad (out b)
       go true u ih =
           let h : (at bad g ≡ 0) × (0 < at t.free g) = usable_next bad g u in
           inr
@@ -110,7 +110,7 @@ module _ (G : Geometry) (K : Good G) (t : Tables) (S : Counted G t) where
 
   -- nothing is found exactly when every segment is bad or has no free page
   pub record Full (bad : List ℕ) (r : Found) : Type 0 where
-    pub is : r ≡ Nothing
+    pub is : r ≡ None
     pub full : (g : ℕ) → g < G.n → at bad g ≡ 0 → at t.free g ≡ 0
 
   pub found : (bad : List ℕ) → Full bad (find G bad t) ⊎ Free bad (find G bad t)
@@ -124,7 +124,7 @@ module _ (G : Geometry) (K : Good G) (t : Tables) (S : Counted G t) where
           let v : ltb 0 (at t.free g) ≡ false = rw (eq-eqb _ _ b) at u in
           omega (arith, ltb-false 0 (at t.free g) v)
 
-      go : None bad G.n 0 (find_from G bad t 0 G.n) ⊎ Free bad (find_from G bad t 0 G.n)
+      go : Nowhere bad G.n 0 (find_from G bad t 0 G.n) ⊎ Free bad (find_from G bad t 0 G.n)
           → Full bad (find_from G bad t 0 G.n) ⊎ Free bad (find_from G bad t 0 G.n)
       go (inl n) = inl (record { is = n.is; full = full n.none })
       go (inr f) = inr f

@@ -5,7 +5,7 @@ use mathlib.Core.Path.{◌≡◌, refl}
 use mathlib.Core.Bool.{Bool, true, false, cond}
 use mathlib.Core.List.{List, [], ◌∷◌}
 use lib.Dec.{eqb}
-use Rattle.model.specs.Numbers.{Geometry, Moved}
+use Rattle.model.specs.Numbers.{Geometry, Ok}
 use Rattle.model.specs.Device.{State, state, Out, EraseSeg, blanked, perform_all, finish, behind, format_from}
 use Rattle.model.specs.Contract.{Fit}
 use Rattle.model.proofs.Content.{blank_fit}
@@ -15,7 +15,7 @@ use Rattle.model.proofs.Ops.{SafeOps}
 pub record Formatted (G : Geometry) (st : State) (o : Out) : Type 0 where
   pub tab : o.st.tab ≡ st.tab
   pub fit : Fit G o.st.flash
-  pub answer : o.answer ≡ Moved 0
+  pub answer : o.answer ≡ Ok 0
   pub performs : o.st.flash ≡ perform_all G o.ops st.flash
   pub erases : (M : List ℕ) → SafeOps G M o.ops
 

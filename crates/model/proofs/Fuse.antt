@@ -10,11 +10,11 @@ use lib.ListN.{length, take, length-append}
 use lib.Seq.{take-append-le, take-append-add, take_all, take-nil}
 use borrow.Author.Tests.{ne_eqb}
 use Rattle.model.specs.Lists.{splice, total}
-use Rattle.model.specs.Numbers.{Geometry, Answer, Moved, Refused, Cause, NoRoom, Device, Erase, endless}
+use Rattle.model.specs.Numbers.{Geometry, Answer, Ok, Err, Cause, NoRoom, Device, Erase, endless}
 use Rattle.model.specs.Tables.{at}
 use Rattle.model.specs.Device.{flash, Op, Program, EraseSeg, raised, State, state, Out, out, burn}
 use Rattle.model.specs.Device.{blanked, clear_up, may_program, may_erase, refuse, finish, behind, go_on, and_then, format_from}
-use Rattle.model.specs.PageMap.{Found, At, Nothing, find}
+use Rattle.model.specs.PageMap.{Found, Some, spot, None, find}
 use Rattle.model.specs.PageWrite.{whole, old_page, stored, spent, write_at, write_page}
 use Rattle.model.specs.PageGc.{of_copy, copy_answer, as_copy_out, victim, taken, cleared, finish_of, last_of}
 use Rattle.model.specs.PageGc.{copy_one, drain, collect_of, collect, collect_more, collect_list, collect_threshold}
@@ -36,7 +36,7 @@ pub record Alike (f : ℕ) (o o∞ : Out) : Type 0 where
 -- or the fuse ran out, and the run ended there, refused
 pub record Stopped (f : ℕ) (o o∞ : Out) : Type 0 where
   pub cause : Cause
-  pub answer : o.answer ≡ Refused cause
+  pub answer : o.answer ≡ Err cause
   pub long : f ≤ length o∞.ops
   pub ops : o.ops ≡ take f o∞.ops
 
@@ -91,16 +91,16 @@ module _ (k : State → Out) where
           })
 
       go : (a : Answer) → Tracks f (go_on a o k) (go_on a o∞ k)
-      go (Moved m) = join tail
-      go (Refused r) = inl A
+      go (Ok m) = join tail
+      go (Err r) = inl A
 
   chain_stopped : (f : ℕ) (o o∞ : Out) → Stopped f o o∞ → Stopped f (and_then o k) (and_then o∞ k)
   chain_stopped f o o∞ B =
       subst (λ a. Stopped f (go_on a o k) (go_on o∞.answer o∞ k)) (sym B.answer) (go o∞.answer)
     where
       go : (a : Answer) → Stopped f o (go_on a o∞ k)
-      go (Refused r) = B
-      go (Moved m) =
+      go (Err r) = B
+      go (Ok m) =
           record {
             cause = B.cause;
             answer = B.answer;
@@ -143,9 +143,15 @@ module _ (G : Geometry) where
   tracks_at : (f : ℕ) → f < endless → (r : Found) (l off : ℕ) (d : List ℕ) (s : State)
       → Tracks f (write_at G r l off d (lit f s)) (write_at G r l off d (lit endless s))
   unfolding write_at may_program old_page
-  tracks_at f h Nothing l off d s = idle f (Refused NoRoom) s
-  tracks_at f h (At g k) l off d s = go (clear_up G g k s.flash) (same? f 0)
+  tracks_at f h None l off d s = idle f (Err NoRoom) s
+  tracks_at f h (Some x) l off d s = go (clear_up G g k s.flash) (same? f 0)
     where
+      g : ℕ
+      g = x.segment
+
+      k : ℕ
+      k = x.page
+
       page : List ℕ
       page = splice off d (old_page G s l)
 
@@ -155,9 +161,9 @@ module _ (G : Geometry) where
           (cond (a && not c) (stored G l (length d) g k page (lit endless s)) (spent G g k (lit endless s)))
 
       go : (a : Bool) → (f ≡ 0) ⊎ (f ≢ 0) → Goal a (eqb f 0) (eqb endless 0)
-      go false z = idle f (Refused Device) (spent G g k s).st
+      go false z = idle f (Err Device) (spent G g k s).st
       go true (inl e) = rw e fuse_out
-      go true (inr n) = rw (ne_eqb f 0 n) (one_done f h n (stored G l (length d) g k page s).st (Moved (length d)) (Program g k page))
+      go true (inr n) = rw (ne_eqb f 0 n) (one_done f h n (stored G l (length d) g k page s).st (Ok (length d)) (Program g k page))
 
   tracks_erase : (f : ℕ) → f < endless → (v : ℕ) (s : State) → Tracks f (finish_of G v (lit f s)) (finish_of G v (lit endless s))
   unfolding finish_of may_erase
@@ -169,9 +175,9 @@ module _ (G : Geometry) where
           (cond (a && not c) (cleared G v (lit endless s)) (refuse Erase (lit endless s)))
 
       go : (a : Bool) → (f ≡ 0) ⊎ (f ≢ 0) → Goal a (eqb f 0) (eqb endless 0)
-      go false z = idle f (Refused Erase) s
+      go false z = idle f (Err Erase) s
       go true (inl e) = rw e fuse_out
-      go true (inr n) = rw (ne_eqb f 0 n) (one_done f h n (cleared G v s).st (Moved 0) (EraseSeg v (raised G v s.flash)))
+      go true (inr n) = rw (ne_eqb f 0 n) (one_done f h n (cleared G v s).st (Ok 0) (EraseSeg v (raised G v s.flash)))
 
 module _ (G : Geometry) (bad : List ℕ) where
   tracks_write : (f : ℕ) → f < endless → (l off : ℕ) (d : List ℕ) (s : State)
@@ -184,9 +190,9 @@ module _ (G : Geometry) (bad : List ℕ) where
 
   tracks_drain : (b v f : ℕ) → f < endless → (s : State) → Tracks f (drain G bad b v (lit f s)) (drain G bad b v (lit endless s))
   unfolding drain
-  tracks_drain zero v f h s = idle f (Moved 0) s
+  tracks_drain zero v f h s = idle f (Ok 0) s
   tracks_drain (suc b) v f h s =
-      either f (eqb (at s.tab.lens v) 0) (idle f (Moved 0) s)
+      either f (eqb (at s.tab.lens v) 0) (idle f (Ok 0) s)
       (chain (λ t. drain G bad b v t) f _ _ (tracks_copy f h v s) (λ g t le. tracks_drain b v g (omega arith) t))
 
   tracks_of : (f : ℕ) → f < endless → (v : ℕ) (s : State) → Tracks f (collect_of G bad v (lit f s)) (collect_of G bad v (lit endless s))
@@ -198,16 +204,16 @@ module _ (G : Geometry) (bad : List ℕ) where
 
   tracks_collect : (f : ℕ) → f < endless → (s : State) → Tracks f (collect G bad (lit f s)) (collect G bad (lit endless s))
   unfolding collect
-  tracks_collect f h s = either f (eqb s.tab.queued 0) (idle f (Moved 0) s) (tracks_of f h (victim s.tab) s)
+  tracks_collect f h s = either f (eqb s.tab.queued 0) (idle f (Ok 0) s) (tracks_of f h (victim s.tab) s)
 
   tracks_more : (m c f : ℕ) → f < endless → (s : State)
       → Tracks f (collect_more G bad m c (lit f s)) (collect_more G bad m c (lit endless s))
   unfolding collect_more
-  tracks_more zero c f h s = idle f (Moved c) s
+  tracks_more zero c f h s = idle f (Ok c) s
   tracks_more (suc m) c f h s =
       chain (λ t. cond (eqb t.tab.queued 0) (finish c t) (collect_more G bad m (suc c) t)) f _ _
       (tracks_collect f h s)
-      (λ g t b. either g (eqb t.tab.queued 0) (idle g (Moved c) t) (tracks_more m (suc c) g (omega arith) t))
+      (λ g t b. either g (eqb t.tab.queued 0) (idle g (Ok c) t) (tracks_more m (suc c) g (omega arith) t))
 
   tracks_list : (m f : ℕ) → f < endless → (s : State) → Tracks f (collect_list G bad m (lit f s)) (collect_list G bad m (lit endless s))
   unfolding collect_list
@@ -216,7 +222,7 @@ module _ (G : Geometry) (bad : List ℕ) where
   tracks_threshold : (threshold m f : ℕ) → f < endless → (s : State)
       → Tracks f (collect_threshold G bad threshold m (lit f s)) (collect_threshold G bad threshold m (lit endless s))
   unfolding collect_threshold
-  tracks_threshold threshold m f h s = either f (ltb threshold (total s.tab.free)) (idle f (Moved 0) s) (tracks_list m f h s)
+  tracks_threshold threshold m f h s = either f (ltb threshold (total s.tab.free)) (idle f (Ok 0) s) (tracks_list m f h s)
 
 -- ---- what the operations are, with a finite fuse: the first of those under an endless one
 

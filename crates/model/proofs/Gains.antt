@@ -11,7 +11,7 @@ use lib.ListN.{length, take, set}
 use borrow.Author.Tests.{eqb-true, eqb-false, eq-eqb, ne_eqb}
 use Rattle.model.specs.Lists.{splice, total}
 use Rattle.model.specs.Numbers.{Geometry, Good, logical_page, offset}
-use Rattle.model.specs.Numbers.{Answer, Moved, Refused, Cause, Wrong, Unsound, NoRoom, Device, CopyNoRoom, CopyDevice, Erase}
+use Rattle.model.specs.Numbers.{Answer, Ok, Err, Cause, Wrong, Unsound, NoRoom, Device, CopyNoRoom, CopyDevice, Erase}
 use Rattle.model.specs.Causes.{Failing, for_room, at_device}
 use Rattle.model.specs.Tables.{Tables, at}
 use Rattle.model.specs.Device.{State, state, Out, out, may_program, may_erase, finish, refuse, go_on}
@@ -89,8 +89,8 @@ Stopped bad j fs fs' at_device = (k : ℕ) × (k < j) × Spends bad (suc k) fs f
 
 -- how that ends, by the answer; `cause` has the cause of either refusal
 pub data Spent (bad : List ℕ) (cause : Failing → Cause) (j : ℕ) (fs fs' : List ℕ) : Answer → Type 0 where
-  done : (m : ℕ) → Spends bad j fs fs' → Spent bad cause j fs fs' (Moved m)
-  stopped : (f : Failing) → Stopped bad j fs fs' f → Spent bad cause j fs fs' (Refused (cause f))
+  done : (m : ℕ) → Spends bad j fs fs' → Spent bad cause j fs fs' (Ok m)
+  stopped : (f : Failing) → Stopped bad j fs fs' f → Spent bad cause j fs fs' (Err (cause f))
 
 abbrev pub cause_in_write : Failing → Cause
 cause_in_write for_room = NoRoom
@@ -120,12 +120,12 @@ module _ {bad : List ℕ} where
   one_more e one (stopped at_device h) = stopped at_device (suc h.0, omega (arith, h.1), behind refl one h.2)
 
   -- a copy is refused
-  no_more : {j : ℕ} {fs fs' : List ℕ} (f : Failing) → 0 < j → Stopped bad 1 fs fs' f → Spent bad cause_in_copy j fs fs' (Refused (of_copy (cause_in_write f)))
+  no_more : {j : ℕ} {fs fs' : List ℕ} (f : Failing) → 0 < j → Stopped bad 1 fs fs' f → Spent bad cause_in_copy j fs fs' (Err (of_copy (cause_in_write f)))
   no_more for_room some h = stopped for_room (omega (arith, h.0), h.1)
   no_more at_device some h = stopped at_device (h.0, omega (arith, h.1), h.2)
 
   -- a write spends a page, unless it is refused for room
-  pub one_spent : {fs fs' : List ℕ} {a : Answer} → Spent bad cause_in_write 1 fs fs' a → a ≢ Refused NoRoom → Spends bad 1 fs fs'
+  pub one_spent : {fs fs' : List ℕ} {a : Answer} → Spent bad cause_in_write 1 fs fs' a → a ≢ Err NoRoom → Spends bad 1 fs fs'
   one_spent (done m s) n = s
   one_spent (stopped for_room h) n = absurd (n refl)
   one_spent (stopped at_device h) n =
@@ -218,10 +218,10 @@ pub record Gained (G : Geometry) (bad : List ℕ) (t t' : Tables) : Type 0 where
 
 -- how a pass ends, by the answer
 pub data PassGains (G : Geometry) (bad : List ℕ) (t t' : Tables) : Answer → Type 0 where
-  idle : t.queued ≡ 0 → t' ≡ t → PassGains G bad t t' (Moved 0)
-  gained : Gained G bad t t' → PassGains G bad t t' (Moved 0)
-  stopped : (f : Failing) → Stopped bad (listed_of t) t.free t'.free f → PassGains G bad t t' (Refused (cause_in_copy f))
-  not_erased : Spends bad (listed_of t) t.free t'.free → PassGains G bad t t' (Refused Erase)
+  idle : t.queued ≡ 0 → t' ≡ t → PassGains G bad t t' (Ok 0)
+  gained : Gained G bad t t' → PassGains G bad t t' (Ok 0)
+  stopped : (f : Failing) → Stopped bad (listed_of t) t.free t'.free f → PassGains G bad t t' (Err (cause_in_copy f))
+  not_erased : Spends bad (listed_of t) t.free t'.free → PassGains G bad t t' (Err Erase)
 
 module _ (G : Geometry) (K : Good G) (bad : List ℕ) (hb : length bad ≡ G.n) (st : State) (S : Counted G st.tab) (F : Fit G st.flash) where
   module _ (some : 0 < st.tab.queued) where
@@ -284,29 +284,29 @@ module _ (G : Geometry) (K : Good G) (bad : List ℕ) (hb : length bad ≡ G.n) 
 
 -- what its answer tells of a pass
 module _ {G : Geometry} {bad : List ℕ} {t t' : Tables} {a : Answer} (g : PassGains G bad t t' a) where
-  pub if_finished : 0 < t.queued → a ≡ Moved 0 → Gained G bad t t'
+  pub if_finished : 0 < t.queued → a ≡ Ok 0 → Gained G bad t t'
   if_finished some = go g
     where
-      go : {a : Answer} → PassGains G bad t t' a → a ≡ Moved 0 → Gained G bad t t'
+      go : {a : Answer} → PassGains G bad t t' a → a ≡ Ok 0 → Gained G bad t t'
       go (idle z _) e = absurd (omega arith)
       go (gained h) e = h
       go (stopped f h) e = absurd (clash cc)
       go (not_erased h) e = absurd (clash cc)
 
-  pub if_for_room : a ≡ Refused CopyNoRoom → Stopped bad (listed_of t) t.free t'.free for_room
+  pub if_for_room : a ≡ Err CopyNoRoom → Stopped bad (listed_of t) t.free t'.free for_room
   if_for_room = go g
     where
-      go : {a : Answer} → PassGains G bad t t' a → a ≡ Refused CopyNoRoom → Stopped bad (listed_of t) t.free t'.free for_room
+      go : {a : Answer} → PassGains G bad t t' a → a ≡ Err CopyNoRoom → Stopped bad (listed_of t) t.free t'.free for_room
       go (idle z _) e = absurd (clash cc)
       go (gained h) e = absurd (clash cc)
       go (stopped for_room h) e = h
       go (stopped at_device h) e = absurd (clash cc)
       go (not_erased h) e = absurd (clash cc)
 
-  pub if_short : 0 < t.queued → a ≢ Refused CopyDevice → outside bad t.free < listed_of t → a ≡ Refused CopyNoRoom
+  pub if_short : 0 < t.queued → a ≢ Err CopyDevice → outside bad t.free < listed_of t → a ≡ Err CopyNoRoom
   if_short some n short = go g n
     where
-      go : {a : Answer} → PassGains G bad t t' a → a ≢ Refused CopyDevice → a ≡ Refused CopyNoRoom
+      go : {a : Answer} → PassGains G bad t t' a → a ≢ Err CopyDevice → a ≡ Err CopyNoRoom
       go (idle z _) n = absurd (omega arith)
       go (gained h) n = absurd (omega (arith, h.enough))
       go (stopped for_room h) n = refl
@@ -317,7 +317,7 @@ module _ {G : Geometry} {bad : List ℕ} {t t' : Tables} {a : Answer} (g : PassG
 
 -- what holds of a call that its tests do not refuse
 abbrev pub Tried : (Outcome → Type 0) → Outcome → Type 0
-Tried P o = o.answer ≢ Refused Wrong → o.answer ≢ Refused Unsound → P o
+Tried P o = o.answer ≢ Err Wrong → o.answer ≢ Err Unsound → P o
 
 module _ (G : Geometry) (bad : List ℕ) (r : Recorder) (s : List (List ℕ)) where
   -- a write spends one page, unless there is no room
@@ -351,31 +351,31 @@ module _ (G : Geometry) (bad : List ℕ) (r : Recorder) (s : List (List ℕ)) wh
       (pass_gains G X.good bad X.bad_size (state_in G r) X.counted X.fit))
 
   module _ (some : 0 < (tab G r).queued) where
-    pub finished : o.answer ≡ Moved 0 → Gained G bad (tab G r) left
+    pub finished : o.answer ≡ Ok 0 → Gained G bad (tab G r) left
     finished e = if_finished (passes (λ q. clash cc) (λ q. clash cc)) some e
 
     -- "a finished pass on a victim with v listed pages raises total free pages by exactly p - v"
-    pub finished_gains : o.answer ≡ Moved 0 → total left.free ≡ total (tab G r).free + (G.p - listed_of (tab G r))
+    pub finished_gains : o.answer ≡ Ok 0 → total left.free ≡ total (tab G r).free + (G.p - listed_of (tab G r))
     finished_gains e = (finished e).total_is
 
     -- v of the room are spent, and p come to it unless the victim is bad
-    pub finished_room : o.answer ≡ Moved 0
+    pub finished_room : o.answer ≡ Ok 0
         → outside bad left.free + listed_of (tab G r) ≡ outside bad (tab G r).free + in_room (at bad (victim (tab G r))) G.p
     finished_room e = (finished e).outside_is
 
-  short : o.answer ≡ Refused CopyNoRoom → Stopped bad (listed_of (tab G r)) (tab G r).free left.free for_room
+  short : o.answer ≡ Err CopyNoRoom → Stopped bad (listed_of (tab G r)) (tab G r).free left.free for_room
   short e = if_for_room (passes (λ q. clash cc) (λ q. clash cc)) e
 
   -- "If the device refuses nothing, the pass is refused for room exactly when the free pages of segments outside the bad list number fewer than v."
   -- Only then, whatever the device refuses;
-  pub refused_for_room : o.answer ≡ Refused CopyNoRoom → outside bad (tab G r).free < listed_of (tab G r)
+  pub refused_for_room : o.answer ≡ Err CopyNoRoom → outside bad (tab G r).free < listed_of (tab G r)
   refused_for_room e = (short e).0
 
   -- and all of them are spent then
-  pub room_used_up : o.answer ≡ Refused CopyNoRoom → Spends bad (outside bad (tab G r).free) (tab G r).free left.free
+  pub room_used_up : o.answer ≡ Err CopyNoRoom → Spends bad (outside bad (tab G r).free) (tab G r).free left.free
   room_used_up e = (short e).1
 
   -- and always then, if the device refuses no copy. That is less than "refuses nothing": an erase is refused behind the last copy, so there was room
-  pub short_of_room : 0 < (tab G r).queued → o.answer ≢ Refused Wrong → o.answer ≢ Refused Unsound → o.answer ≢ Refused CopyDevice
-      → outside bad (tab G r).free < listed_of (tab G r) → o.answer ≡ Refused CopyNoRoom
+  pub short_of_room : 0 < (tab G r).queued → o.answer ≢ Err Wrong → o.answer ≢ Err Unsound → o.answer ≢ Err CopyDevice
+      → outside bad (tab G r).free < listed_of (tab G r) → o.answer ≡ Err CopyNoRoom
   short_of_room some w u n h = if_short (passes w u) some n h

@@ -10,7 +10,7 @@ use lib.Dec.{eqb, ltb}
 use lib.ListN.{length}
 use borrow.Author.Tests.{eqb-false}
 use Rattle.model.specs.Lists.{occ, splice, total}
-use Rattle.model.specs.Numbers.{Geometry, Good, Answer, Moved, Refused, Erase, empty, page_of}
+use Rattle.model.specs.Numbers.{Geometry, Good, Answer, Ok, Err, Erase, empty, page_of}
 use Rattle.model.specs.Tables.{at, word_of, queue_of}
 use Rattle.model.specs.Sound.{Mapped}
 use Rattle.model.specs.Device.{State, state, Out, may_program, may_erase, finish, refuse, go_on, raised}
@@ -99,8 +99,8 @@ module _ (G : Geometry) (K : Good G) (bad : List ℕ) where
       where
         next : at st.tab.lens v ≢ 0 → ((st' : State) → Counted G st'.tab → Fit G st'.flash → Inners G bad st' (drain G bad b v st').st)
             → (a : Answer) → Inners G bad st (go_on a (copy_one G bad v st) (λ st'. drain G bad b v st')).st
-        next some ih (Refused r) = copy_inners st S F some
-        next some ih (Moved k) =
+        next some ih (Err r) = copy_inners st S F some
+        next some ih (Ok k) =
             append (copy_inners st S F some)
             (ih (copy_one G bad v st).st (copied G K bad v seg st S F some).sound (copied G K bad v seg st S F some).fit)
 
@@ -132,8 +132,8 @@ module _ (G : Geometry) (K : Good G) (bad : List ℕ) where
 
         of : 0 < st.tab.queued → (o : Out) → Inners G bad st₁ o.st → Drained G v st₁ o → (a : Answer) → o.answer ≡ a
             → Inners G bad st (go_on a o (λ st'. finish_of G v st')).st
-        of some o is D (Refused r) e = then (takes st some) is
-        of some o is D (Moved m) e =
+        of some o is D (Err r) e = then (takes st some) is
+        of some o is D (Ok m) e =
             then (takes st some)
             (append is
             (finish_inners v (victim_seg G st.tab S some) o.st (subst (Emptied o.st.tab v) e D.emptied)
@@ -167,8 +167,8 @@ module _ (G : Geometry) (K : Good G) (bad : List ℕ) where
 
       go : (a : Answer) → ((st' : State) → Counted G st'.tab → Fit G st'.flash → Inners G bad st' (collect_more G bad m (suc c) st').st)
           → Inners G bad st (go_on a o (λ t. cond (eqb t.tab.queued 0) (finish c t) (collect_more G bad m (suc c) t))).st
-      go (Refused r) ih = collect_inners st S F
-      go (Moved k) ih =
+      go (Err r) ih = collect_inners st S F
+      go (Ok k) ih =
           let C : Kept G st o = collected G K bad st S F in
           append (collect_inners st S F) (next (eqb o.st.tab.queued 0) (ih o.st C.sound C.fit))
 

@@ -10,7 +10,7 @@ use lib.ListN.{length, take, get_or-replicate}
 use lib.Seq.{get_or-set_other, length-take-le}
 use borrow.Author.Tests.{eqb-true, eqb-false, ltb-true, leb-true, not-false}
 use Rattle.model.specs.Lists.{slot, splice, total, blank}
-use Rattle.model.specs.Numbers.{Geometry, Good, good?, logical_page, offset, Answer, Moved, Refused, Cause, Wrong, Unsound, Unmapped, Erase}
+use Rattle.model.specs.Numbers.{Geometry, Good, good?, logical_page, offset, Answer, Ok, Err, Cause, Wrong, Unsound, Unmapped, Erase}
 use Rattle.model.specs.Causes.{kind_of}
 use Rattle.model.specs.Tables.{Tables, at}
 use Rattle.model.specs.Device.{Flash, State, state, Out, out, clear_up, may_program, may_erase, raised, blanked, EraseSeg, finish, refuse, behind, go_on, format_from}
@@ -101,8 +101,8 @@ module _ (G : Geometry) (K : Good G) (bad : List ℕ) where
 -- ---- what the device refuses is refused because the fuse is out
 
 copy_only_fuse : (a : Answer) (f : Flash) → OnlyFuse a f → OnlyFuse (copy_answer a) f
-copy_only_fuse (Moved m) f h = tt
-copy_only_fuse (Refused c) f h = kind_copied (λ k. AtProgramming k → f.fuse ≡ 0) (λ _ e. e) c h
+copy_only_fuse (Ok m) f h = tt
+copy_only_fuse (Err c) f h = kind_copied (λ k. AtProgramming k → f.fuse ≡ 0) (λ _ e. e) c h
 
 module _ (G : Geometry) (K : Good G) (bad : List ℕ) where
   pub write_only_fuse : (st : State) → Counted G st.tab → Fit G st.flash → Ordered G st → (l off : ℕ) (d : List ℕ)
@@ -141,8 +141,8 @@ module _ (G : Geometry) (K : Good G) (bad : List ℕ) where
 
         next : at st.tab.lens v ≢ 0 → More → (a : Answer) → OnlyFuse a c.st.flash
             → let o = go_on a (out c.st a c.ops) (λ st'. drain G bad b v st') in OnlyFuse o.answer o.st.flash
-        next some ih (Refused r) h = h
-        next some ih (Moved k) h =
+        next some ih (Err r) h = h
+        next some ih (Ok k) h =
             ih c.st (copied G K bad v seg st S F some).sound (copied G K bad v seg st S F some).fit
             (inners_keep G K bad (Ordered G) (step_ordered G K bad) (copy_inners G K bad v seg st S F some) S F H)
 
@@ -168,8 +168,8 @@ module _ (G : Geometry) (K : Good G) (bad : List ℕ) where
 
         of : (a : Answer) → OnlyFuse a d.st.flash
             → let o = go_on a (out d.st a d.ops) (λ st'. finish_of G v st') in OnlyFuse o.answer o.st.flash
-        of (Refused r) h = h
-        of (Moved m) h = ended (may_erase G v d.st.flash)
+        of (Err r) h = h
+        of (Ok m) h = ended (may_erase G v d.st.flash)
 
         go : (b : Bool) → eqb st.tab.queued 0 ≡ b
             → let o = cond b (finish 0 st) (go_on d.answer d (λ st'. finish_of G v st')) in OnlyFuse o.answer o.st.flash
@@ -203,8 +203,8 @@ module _ (G : Geometry) (K : Good G) (bad : List ℕ) where
       next : (a : Answer) → OnlyFuse a o.st.flash → More
           → let q = go_on a (out o.st a o.ops) (λ t. cond (eqb t.tab.queued 0) (finish c t) (collect_more G bad m (suc c) t)) in
           OnlyFuse q.answer q.st.flash
-      next (Refused r) h ih = h
-      next (Moved k) h ih =
+      next (Err r) h ih = h
+      next (Ok k) h ih =
           pick (eqb o.st.tab.queued 0)
           (ih o.st C.sound C.fit (inners_keep G K bad (Ordered G) (step_ordered G K bad) (collect_inners G K bad st S F) S F H))
 

@@ -6,7 +6,7 @@ use mathlib.Core.List.{List, [], ◌∷◌}
 use lib.ListN.{get_or}
 use lib.IntN.{ℤ}
 use Rattle.model.specs.Lists.{every}
-use Rattle.model.specs.Numbers.{Numbers, Refused, Cause, Wrong, Unsound, number}
+use Rattle.model.specs.Numbers.{Numbers, Err, Cause, Wrong, Unsound, number}
 use Rattle.model.specs.Entry.{Lent, Outcome, PromiseIn, refused, unless, guarded}
 
 -- one test of a list fails
@@ -18,7 +18,7 @@ every_not (true ∷ bs) (suc i) e = every_not bs i e
 every_not (false ∷ bs) (suc i) e = refl
 
 -- a refusal that changes nothing
-pub promised : {N : Numbers} {c : Cause} {x : Lent} {r : ℤ} → r ≡ number N (Refused c) → PromiseIn N (refused c x) x r
+pub promised : {N : Numbers} {c : Cause} {x : Lent} {r : ℤ} → r ≡ number N (Err c) → PromiseIn N (refused c x) x r
 promised e = record { left_is = refl; answer_is = e }
 
 module _ (a b c d : Bool) (x : Lent) (o : Outcome) where

@@ -8,7 +8,7 @@ use lib.Dec.{eqb}
 use mathlib.Core.List.{List, [], ◌∷◌}
 use lib.ListN.{length, take}
 use Rattle.model.specs.Lists.{bit, every, zeros}
-use Rattle.model.specs.Numbers.{Geometry, good?, Moved, Refused, Reason}
+use Rattle.model.specs.Numbers.{Geometry, good?, Ok, Err, Reason}
 use Rattle.model.specs.Tables.{Tables, at, queue_of, tab_words, pages}
 use Rattle.model.specs.Entry.{Recorder, Lent, lent, Outcome, outcome, unless, guarded, clean, tables_fit, restoring}
 use Rattle.model.specs.Checkpoint.{Queueing, Empty, Dead, dead?, dead_ones, with_queue, map_of, free_of, alloc_of, reason_of, restored_from, restored_by, sealed}
@@ -24,7 +24,7 @@ use Rattle.model.proofs.Cut.{Encoded, encoded, restores}
 
 -- "So a saved sound state comes back with map, allocation segment and free counts": under either choice
 pub round_trip : (G : Geometry) (bad : List ℕ) (r₀ : Recorder) (buffer : List ℕ) (scratch : List (List ℕ)) (m : ℕ)
-    → (run G bad (Encode buffer scratch) r₀).answer ≡ Moved m
+    → (run G bad (Encode buffer scratch) r₀).answer ≡ Ok m
     → (q : Queueing) (r : Recorder) → length r.words ≡ tab_words G → length r.used ≡ pages G
     → let file = take m (run G bad (Encode buffer scratch) r₀).left.buffer in
     Back (tab G r₀) (tab G (after G bad (Restore q file (zeros (pages G) ∷ [])) r))
@@ -42,7 +42,7 @@ one_answer G q q' b x = ap (λ (o : Outcome). o.answer) (without-tables q ∙ sy
   where
     without-tables : (q : Queueing) → over (with_tables [] []) (restoring G q b x)
         ≡ guarded (every (good? G ∷ tables_fit G x ∷ clean (pages G ∷ []) x.scratch ∷ [])) true true true (with_tables [] [] x)
-        (unless (eqb (reason_of G b) 0) (Reason (reason_of G b)) (with_tables [] [] x) (outcome (with_tables [] [] x) (Moved 0) []))
+        (unless (eqb (reason_of G b) 0) (Reason (reason_of G b)) (with_tables [] [] x) (outcome (with_tables [] [] x) (Ok 0) []))
     without-tables q =
         sym (ap (guarded _ true true true (with_tables [] [] x)) (unless_over (with_tables [] []) (eqb (reason_of G b) 0) (Reason (reason_of G b)) x _)
         ∙ guarded_over (with_tables [] []) _ true true true x _)
@@ -52,7 +52,7 @@ module _ (G : Geometry) (bad b : List ℕ) (s : List (List ℕ)) (r : Recorder) 
   abbrev made : Queueing → Tables
   made q = tab G (after G bad (Restore q b s) r)
 
-  made_is : (q : Queueing) → (run G bad (Restore q b s) r).answer ≡ Moved 0 → made q ≡ restored_by G q b
+  made_is : (q : Queueing) → (run G bad (Restore q b s) r).answer ≡ Ok 0 → made q ≡ restored_by G q b
   made_is q e =
       let B : Begun G r (restored_by G q b) _ = or_begun G (lent r [] s) _ _ (restored_or G q b (lent r [] s)) e in
       ap (tab G) B.unit ∙ view-packed B.counted.sized
@@ -61,14 +61,14 @@ module _ (G : Geometry) (bad b : List ℕ) (s : List (List ℕ)) (r : Recorder) 
   alone = requeued_alone G Dead (restored_from G b)
 
   -- 01's "queue empty, flags clear", by the old choice
-  pub none_made : (run G bad (Restore Empty b s) r).answer ≡ Moved 0 → (queue_of (made Empty) ≡ []) × ((g : ℕ) → at (made Empty).flags g ≡ 0)
+  pub none_made : (run G bad (Restore Empty b s) r).answer ≡ Ok 0 → (queue_of (made Empty) ≡ []) × ((g : ℕ) → at (made Empty).flags g ≡ 0)
   none_made e =
       let q : queue_of (restored_from G b) ≡ [] =
       ap (λ k. take k (restored_from G b).queue) (restored_queued G (map_of G b) (free_of G b) (alloc_of G b)) in
       subst (λ t. (queue_of t ≡ []) × ((g : ℕ) → at t.flags g ≡ 0)) (sym (made_is Empty e))
       (q, λ g. restored_ahead G (map_of G b) (free_of G b) (alloc_of G b) g (omega arith))
 
-  module _ (e : (run G bad (Restore Dead b s) r).answer ≡ Moved 0) where
+  module _ (e : (run G bad (Restore Dead b s) r).answer ≡ Ok 0) where
     counted : Counted G (restored_from G b)
     counted =
         accepted_sound G b (restored_passes G Dead b (lent r [] s) e) (or_begun G (lent r [] s) _ _ (restored_or G Dead b (lent r [] s)) e).good
@@ -105,12 +105,12 @@ module _ (G : Geometry) (bad b : List ℕ) (s : List (List ℕ)) (r : Recorder) 
           let e : made Empty ≡ tab G r = ap (λ (o : Outcome). tab G o.left.unit) y'.is in
           d ∙ sym (ap (λ t. with_queue t (made Empty)) d ∙ ap (with_queue (tab G r)) e)
       go (inl y) (inr B) =
-          absurd (let z : Refused y.cause ≡ Moved 0 = sym (ap (λ (o : Outcome). o.answer) y.is) ∙ same ∙ B.answer in let n : ◌≡◌ {A = ℕ} 0 1 = cc in omega arith)
+          absurd (let z : Err y.cause ≡ Ok 0 = sym (ap (λ (o : Outcome). o.answer) y.is) ∙ same ∙ B.answer in let n : ◌≡◌ {A = ℕ} 0 1 = cc in omega arith)
 
 -- A saved sound state comes back with exactly those segments queued, and flagged, that had free count 0 and a list shorter than p when it was saved: so also a
 -- victim that a refused collection took off the queue, if its list is shorter than p
 module _ (G : Geometry) (bad : List ℕ) (r₀ : Recorder) (buffer : List ℕ) (scratch : List (List ℕ)) (m : ℕ)
-    (e : (run G bad (Encode buffer scratch) r₀).answer ≡ Moved m)
+    (e : (run G bad (Encode buffer scratch) r₀).answer ≡ Ok m)
     (r : Recorder) (a : length r.words ≡ tab_words G) (b : length r.used ≡ pages G) where
   abbrev back : Tables
   back = tab G (after G bad (Restore Dead (take m (run G bad (Encode buffer scratch) r₀).left.buffer) (zeros (pages G) ∷ [])) r)

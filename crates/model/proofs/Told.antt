@@ -3,23 +3,23 @@ use Prim.Native.Nat.{ℕ, zero, suc, ◌≤◌, ◌<◌}
 use native.Mathlib.Omega.{arith}
 use mathlib.Core.Path.{◌≡◌, refl}
 use borrow.Author.Tests.{ne_eqb}
-use Rattle.model.specs.Numbers.{Numbers, Old, New, Answer, Moved, Refused, Cause, Wrong, Unsound, Unmapped, NoRoom, Device, CopyNoRoom, CopyDevice, Erase, Reason}
+use Rattle.model.specs.Numbers.{Numbers, Old, New, Answer, Ok, Err, Cause, Wrong, Unsound, Unmapped, NoRoom, Device, CopyNoRoom, CopyDevice, Erase, Reason}
 use Rattle.model.specs.Numbers.{chosen, refusal, number, as_old}
 use Rattle.model.specs.Causes.{kind_of, OfReason, ReasonsIn}
 
 -- A reason 28 would be read as 14. A call's are at most 9.
 pub read_as_old : (a : Answer) → ReasonsIn (λ r. r ≤ 11) a → as_old (number New a) ≡ number Old a
-read_as_old (Moved m) h = refl
-read_as_old (Refused Wrong) h = refl
-read_as_old (Refused Unsound) h = refl
-read_as_old (Refused Unmapped) h = refl
-read_as_old (Refused NoRoom) h = refl
-read_as_old (Refused Device) h = refl
-read_as_old (Refused CopyNoRoom) h = refl
-read_as_old (Refused CopyDevice) h = refl
-read_as_old (Refused Erase) h = refl
-read_as_old (Refused (Reason zero)) h = refl
-read_as_old (Refused (Reason (suc r))) h = rw (ne_eqb r 27 (omega arith), ne_eqb r 120 (omega arith))
+read_as_old (Ok m) h = refl
+read_as_old (Err Wrong) h = refl
+read_as_old (Err Unsound) h = refl
+read_as_old (Err Unmapped) h = refl
+read_as_old (Err NoRoom) h = refl
+read_as_old (Err Device) h = refl
+read_as_old (Err CopyNoRoom) h = refl
+read_as_old (Err CopyDevice) h = refl
+read_as_old (Err Erase) h = refl
+read_as_old (Err (Reason zero)) h = refl
+read_as_old (Err (Reason (suc r))) h = rw (ne_eqb r 27 (omega arith), ne_eqb r 120 (omega arith))
 
 -- and every refusal number is small, if the reasons are
 chosen_small : (N : Numbers) (old new : ℕ) → old < 4096 → new < 4096 → chosen N old new < 4096

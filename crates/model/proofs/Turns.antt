@@ -10,12 +10,12 @@ use lib.Dec.{eqb}
 use lib.ListN.{length}
 use borrow.Author.Tests.{eq-eqb, ne_eqb, lt-ltb, le-ltb}
 use Rattle.model.specs.Lists.{splice, total}
-use Rattle.model.specs.Numbers.{Geometry, Answer, Moved, Refused, Cause, NoRoom, Erase, empty, seg_of}
+use Rattle.model.specs.Numbers.{Geometry, Answer, Ok, Err, Cause, NoRoom, Erase, empty, seg_of}
 use Rattle.model.specs.Tables.{Tables, at, word_of}
 use Rattle.model.specs.Sound.{Mapped}
 use Rattle.model.specs.Device.{State, state, Out, out, may_program, may_erase, finish, refuse, go_on}
 use Rattle.model.specs.Contract.{Done}
-use Rattle.model.specs.PageMap.{Found, At, Nothing, find, invalidate, forget}
+use Rattle.model.specs.PageMap.{Found, Some, spot, None, find, invalidate, forget}
 use Rattle.model.specs.PageWrite.{whole, old_page, stored, spent, write_at, write_page}
 use Rattle.model.specs.PageGc.{of_copy, copy_answer, victim, taken, cleared, finish_of, last_of, drain, collect_of, collect, collect_more, collect_list, collect_threshold}
 use Rattle.model.proofs.Slots.{whole-splice}
@@ -33,16 +33,16 @@ forget_some G l t n = rw (ne_eqb (word_of t l) empty n)
 module _ (G : Geometry) (bad : List ℕ) where
   -- the inner write
   module _ (l off : ℕ) (d : List ℕ) (st : State) where
-    pub write_none : find G bad st.tab ≡ Nothing → write_page G bad l off d st ≡ refuse NoRoom st
+    pub write_none : find G bad st.tab ≡ None → write_page G bad l off d st ≡ refuse NoRoom st
     unfolding write_page write_at
     write_none e = rw e
 
-    pub write-stored : (g k : ℕ) → find G bad st.tab ≡ At g k → may_program G g k st.flash ≡ true
+    pub write-stored : (g k : ℕ) → find G bad st.tab ≡ Some (spot g k) → may_program G g k st.flash ≡ true
         → write_page G bad l off d st ≡ stored G l (length d) g k (splice off d (old_page G st l)) st
     unfolding write_page write_at
     write-stored g k e b = rw (e, b)
 
-    pub write-spent : (g k : ℕ) → find G bad st.tab ≡ At g k → may_program G g k st.flash ≡ false → write_page G bad l off d st ≡ spent G g k st
+    pub write-spent : (g k : ℕ) → find G bad st.tab ≡ Some (spot g k) → may_program G g k st.flash ≡ false → write_page G bad l off d st ≡ spent G g k st
     unfolding write_page write_at
     write-spent g k e b = rw (e, b)
 
@@ -62,8 +62,8 @@ module _ (G : Geometry) (bad : List ℕ) where
     -- o is the copy, w the write of no bytes
     record Same (o w : Out) : Type 0 where
       left : o.st ≡ w.st
-      done : (k : ℕ) → w.answer ≡ Moved k → (j : ℕ) × (o.answer ≡ Moved j)
-      refused : (c : Cause) → w.answer ≡ Refused c → o.answer ≡ Refused c
+      done : (k : ℕ) → w.answer ≡ Ok k → (j : ℕ) × (o.answer ≡ Ok j)
+      refused : (c : Cause) → w.answer ≡ Err c → o.answer ≡ Err c
 
     same : Same (write_page G bad l 0 (whole G st l) st) rewrite
     unfolding write_page write_at
@@ -89,8 +89,8 @@ module _ (G : Geometry) (bad : List ℕ) where
         at_page g k false = plain (spent G g k st)
 
         go : (r : Found) → Same (write_at G r l 0 (whole G st l) st) (write_at G r l 0 [] st)
-        go Nothing = plain (refuse NoRoom st)
-        go (At g k) = at_page g k (may_program G g k st.flash)
+        go None = plain (refuse NoRoom st)
+        go (Some x) = at_page x.segment x.page (may_program G x.segment x.page st.flash)
 
     -- draining: a copy, and what its answer makes of the rest
     abbrev copy : Out
@@ -104,10 +104,10 @@ module _ (G : Geometry) (bad : List ℕ) where
     drain_is b = rw (ne_eqb (at st.tab.lens v) 0 some)
 
     -- a copy that was done
-    pub drain_more : (b k : ℕ) (r : Answer) (s : State) → rewrite.answer ≡ Moved k → Done (drain G bad b v rewrite.st) r s
+    pub drain_more : (b k : ℕ) (r : Answer) (s : State) → rewrite.answer ≡ Ok k → Done (drain G bad b v rewrite.st) r s
         → Done (drain G bad (suc b) v st) r s
     drain_more b k r s e D =
-        let c : (j : ℕ) × (copy.answer ≡ Moved j) = same.done k e in
+        let c : (j : ℕ) × (copy.answer ≡ Ok j) = same.done k e in
         subst (λ o. Done o r s) (sym (drain_is b ∙ ap (drain_on b) c.1))
         (record {
           answer = D.answer ∙ ap (λ z. (drain G bad b v z).answer) (sym same.left);
@@ -115,7 +115,7 @@ module _ (G : Geometry) (bad : List ℕ) where
         })
 
     -- one that was refused
-    pub drain_stops : (b : ℕ) (c : Cause) (r : Answer) (s : State) → rewrite.answer ≡ Refused c → r ≡ Refused (of_copy c) → s ≡ rewrite.st
+    pub drain_stops : (b : ℕ) (c : Cause) (r : Answer) (s : State) → rewrite.answer ≡ Err c → r ≡ Err (of_copy c) → s ≡ rewrite.st
         → Done (drain G bad (suc b) v st) r s
     drain_stops b c r s e p q =
         subst (λ o. Done o r s) (sym (drain_is b ∙ ap (drain_on b) (same.refused c e)))
@@ -140,13 +140,13 @@ module _ (G : Geometry) (bad : List ℕ) where
     collect_is = rw (ne_eqb st.tab.queued 0 some)
 
     -- a copy was refused
-    pub collect_stops : (c : Cause) (r : Answer) (s : State) → r ≡ Refused c → Done drained r s → Done (collect G bad st) r s
+    pub collect_stops : (c : Cause) (r : Answer) (s : State) → r ≡ Err c → Done drained r s → Done (collect G bad st) r s
     collect_stops c r s e D =
         subst (λ o. Done o r s) (sym (collect_is ∙ ap (λ a. go_on a drained (λ st'. finish_of G (victim st.tab) st')) (sym D.answer ∙ e)))
         D
 
     -- all were done: the erase decides
-    pub collect_ends : (k : ℕ) (r : Answer) (s s' : State) → Done drained (Moved k) s → Done (finish_of G (victim st.tab) s) r s'
+    pub collect_ends : (k : ℕ) (r : Answer) (s s' : State) → Done drained (Ok k) s → Done (finish_of G (victim st.tab) s) r s'
         → Done (collect G bad st) r s'
     collect_ends k r s s' D E =
         subst (λ o. Done o r s') (sym (collect_is ∙ ap (λ a. go_on a drained (λ st'. finish_of G (victim st.tab) st')) (sym D.answer)))
@@ -167,24 +167,24 @@ module _ (G : Geometry) (bad : List ℕ) where
     unfolding collect_more
     more_is = refl
 
-    pub list_stops : (e : Cause) (r : Answer) (s : State) → r ≡ Refused e → Done pass r s → Done (collect_more G bad (suc m) c st) r s
+    pub list_stops : (e : Cause) (r : Answer) (s : State) → r ≡ Err e → Done pass r s → Done (collect_more G bad (suc m) c st) r s
     list_stops e r s q D = subst (λ o. Done o r s) (sym (more_is ∙ ap (λ a. go_on a pass rest) (sym D.answer ∙ q))) D
 
-    list_goes : (k : ℕ) (r : Answer) (s s' : State) → Done pass (Moved k) s → Done (rest s) r s' → Done (collect_more G bad (suc m) c st) r s'
+    list_goes : (k : ℕ) (r : Answer) (s s' : State) → Done pass (Ok k) s → Done (rest s) r s' → Done (collect_more G bad (suc m) c st) r s'
     list_goes k r s s' D E =
         subst (λ o. Done o r s') (sym (more_is ∙ ap (λ a. go_on a pass rest) (sym D.answer)))
         (record { answer = E.answer ∙ ap (λ z. (rest z).answer) D.left; left = E.left ∙ ap (λ z. (rest z).st) D.left })
 
     -- the queue is empty: stop before counting
-    pub list_ends : (k : ℕ) (s : State) → Done pass (Moved k) s → s.tab.queued ≡ 0 → Done (collect_more G bad (suc m) c st) (Moved c) s
-    list_ends k s D e = list_goes k (Moved c) s s D (rw (eq-eqb s.tab.queued 0 e) (record { answer = refl; left = refl }))
+    pub list_ends : (k : ℕ) (s : State) → Done pass (Ok k) s → s.tab.queued ≡ 0 → Done (collect_more G bad (suc m) c st) (Ok c) s
+    list_ends k s D e = list_goes k (Ok c) s s D (rw (eq-eqb s.tab.queued 0 e) (record { answer = refl; left = refl }))
 
     -- else count one, and go on
-    pub list_more : (k : ℕ) (r : Answer) (s s' : State) → Done pass (Moved k) s → s.tab.queued ≢ 0 → Done (collect_more G bad m (suc c) s) r s'
+    pub list_more : (k : ℕ) (r : Answer) (s s' : State) → Done pass (Ok k) s → s.tab.queued ≢ 0 → Done (collect_more G bad m (suc c) s) r s'
         → Done (collect_more G bad (suc m) c st) r s'
     list_more k r s s' D n E = list_goes k r s s' D (rw (ne_eqb s.tab.queued 0 n) E)
 
-  pub list_none : (c : ℕ) (st : State) → Done (collect_more G bad 0 c st) (Moved c) st
+  pub list_none : (c : ℕ) (st : State) → Done (collect_more G bad 0 c st) (Ok c) st
   unfolding collect_more
   list_none c st = record { answer = refl; left = refl }
 

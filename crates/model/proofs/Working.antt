@@ -8,19 +8,10 @@ use lib.ListN.{length, drop}
 use Rattle.model.specs.Lists.{slot, occ, zeros}
 use Rattle.model.specs.Numbers.{Geometry, seg_of, page_of}
 use Rattle.model.specs.Tables.{Tables, at, word_of, queue_of, list_of}
+pub use Rattle.model.specs.Tables.{Sized}
 use Rattle.model.specs.Sound.{Mapped, names}
 
--- tables of the right sizes
-pub record Sized (G : Geometry) (t : Tables) : Type 0 where
-  pub map : length t.map ≡ G.e
-  pub free : length t.free ≡ G.n
-  pub valid : length t.valid ≡ G.n
-  pub used : length t.used ≡ G.n * G.p
-  pub lists : length t.lists ≡ G.n * G.p
-  pub lens : length t.lens ≡ G.n
-  pub queue : length t.queue ≡ G.n
-  pub flags : length t.flags ≡ G.n
-
+-- sound tables of the right sizes
 pub record Counted (G : Geometry) (t : Tables) : Type 0 where
   pub sized : Sized G t
   pub free≤ : (g : ℕ) → at t.free g ≤ G.p

@@ -9,7 +9,7 @@ use mathlib.Core.List.{List}
 use lib.ListN.{length, get_or, length-replicate}
 use lib.Seq.{get_or-set_same, get_or-set_other}
 use Rattle.model.specs.Lists.{occ, slot, splice}
-use Rattle.model.specs.Numbers.{Answer, Geometry, Good, Moved, NoRoom, Refused, addr, empty, flat, page_of, seg_of}
+use Rattle.model.specs.Numbers.{Answer, Geometry, Good, Ok, NoRoom, Err, addr, empty, flat, page_of, seg_of}
 use Rattle.model.specs.Tables.{Tables, at, word_of, queue_of}
 use Rattle.model.specs.Sound.{Mapped}
 use Rattle.model.specs.Device.{burn, Out, State, may_program, page_at, perform_all, refuse}
@@ -29,8 +29,8 @@ use Rattle.model.proofs.Content.{content_same, content_mapped, old_empty, old_ma
 
 -- of the page written itself, by the answer
 abbrev pub Own : Geometry → State → State → ℕ → ℕ → List ℕ → Answer → Type 0
-Own G st st' l off d (Moved m) = (m ≡ length d) × (content G st' l ≡ holds (splice off d (old_page G st l)))
-Own G st st' l off d (Refused r) = content G st' l ≡ content G st l
+Own G st st' l off d (Ok m) = (m ≡ length d) × (content G st' l ≡ holds (splice off d (old_page G st l)))
+Own G st st' l off d (Err r) = content G st' l ≡ content G st l
 
 -- a segment that is being collected: full, its flag set
 pub record Busy (G : Geometry) (v : ℕ) (t t' : Tables) : Type 0 where
@@ -40,9 +40,9 @@ pub record Busy (G : Geometry) (v : ℕ) (t t' : Tables) : Type 0 where
 
 -- the list that l was in is one shorter, unless the write was refused
 abbrev pub Shorter : Geometry → State → State → ℕ → ℕ → Answer → Type 0
-Shorter G st st' l v (Moved m) =
+Shorter G st st' l v (Ok m) =
     Mapped st.tab l → seg_of G (word_of st.tab l) ≡ v → at st'.tab.lens v ≡ at st.tab.lens v - 1
-Shorter G st st' l v (Refused r) = Unit {0}
+Shorter G st st' l v (Err r) = Unit {0}
 
 pub record Wrote (G : Geometry) (st : State) (l off : ℕ) (d : List ℕ) (o : Out) : Type 0 where
   pub sound : Counted G o.st.tab

@@ -1,6 +1,6 @@
 -- Where a call is refused. A set of causes is a set of their kinds.
 use Rattle.std.specs.Prelude.{ℕ}
-use Rattle.model.specs.Numbers.{Answer, Moved, Refused, Cause, Wrong, Unsound, Unmapped, NoRoom, Device, CopyNoRoom, CopyDevice, Erase, Reason}
+use Rattle.model.specs.Numbers.{Answer, Ok, Err, Cause, Wrong, Unsound, Unmapped, NoRoom, Device, CopyNoRoom, CopyDevice, Erase, Reason}
 
 -- 02, M-101: "whether a copy failed for room (28) or at the device (121)"; a write fails in the same two ways
 pub data Failing : Type 0 where
@@ -50,5 +50,5 @@ OfReason P in_erase = Unit {0}
 OfReason P (in_file r) = P r
 
 abbrev pub ReasonsIn : (ℕ → Type 0) → Answer → Type 0
-ReasonsIn P (Moved m) = Unit {0}
-ReasonsIn P (Refused c) = OfReason P (kind_of c)
+ReasonsIn P (Ok m) = Unit {0}
+ReasonsIn P (Err c) = OfReason P (kind_of c)

@@ -1,7 +1,7 @@
 -- Document 01, "Flash model", with 02's order of programming: what the device does, its fuse, and the operations that a call does.
 use Rattle.std.specs.Prelude.{ℕ, zero, suc, ◌+◌, ◌*◌, ◌-◌, Bool, not, cond, ◌&&◌, List, [], ◌∷◌, ◌++◌, ltb, eqb, set, drop, replicate}
 use Rattle.model.specs.Lists.{slot, on_slot, blank}
-use Rattle.model.specs.Numbers.{Geometry, Answer, Moved, Refused, Cause, endless, flat}
+use Rattle.model.specs.Numbers.{Geometry, Answer, Ok, Err, Cause, endless, flat}
 use Rattle.model.specs.Tables.{Tables, at}
 
 -- "Each page has s bytes and a programmed mark; each segment has an erase count." "The lent device carries a fuse"
@@ -90,10 +90,10 @@ out st a os = record { st = st; answer = a; ops = os }
 
 -- "A refused operation changes nothing." Done with answer m, no operation.
 abbrev pub refuse : Cause → State → Out
-refuse c st = out st (Refused c) []
+refuse c st = out st (Err c) []
 
 abbrev pub finish : ℕ → State → Out
-finish m st = out st (Moved m) []
+finish m st = out st (Ok m) []
 
 -- o, with operations that were done before it
 abbrev pub behind : List Op → Out → Out
@@ -101,8 +101,8 @@ behind os o = out o.st o.answer (os ++ o.ops)
 
 -- o, and if it was no refusal, f from where it ended
 abbrev pub go_on : Answer → Out → (State → Out) → Out
-go_on (Moved m) o f = behind o.ops (f o.st)
-go_on (Refused c) o f = o
+go_on (Ok m) o f = behind o.ops (f o.st)
+go_on (Err c) o f = o
 
 abbrev pub and_then : Out → (State → Out) → Out
 and_then o f = go_on o.answer o f

@@ -2,7 +2,7 @@
 -- "Lent" names what an entry is lent beside the geometry; the rest of what it is given here it neither tests nor changes.
 use Rattle.std.specs.Prelude.{ℕ, ◌+◌, ◌*◌, ◌≡◌, Bool, true, false, not, cond, ◌&&◌, List, [], ◌∷◌, ltb, leb, eqb, length, take, drop, ℤ}
 use Rattle.model.specs.Lists.{every, blank, splice}
-use Rattle.model.specs.Numbers.{Geometry, Numbers, Old, Answer, Moved, Refused, Cause, Wrong, Unsound, Unmapped, Reason, empty, good?, logical_page, offset, number}
+use Rattle.model.specs.Numbers.{Geometry, Numbers, Old, Answer, Ok, Err, Cause, Wrong, Unsound, Unmapped, Reason, empty, good?, logical_page, offset, number}
 use Rattle.model.specs.Tables.{Tables, word_of, tab_words, pages, view, packed}
 use Rattle.model.specs.Sound.{soundb}
 use Rattle.model.specs.Device.{Flash, flash, Op, State, state, Out, format_from}
@@ -52,7 +52,7 @@ no_flash = flash [] [] [] 0
 
 -- "nothing changed"
 abbrev pub refused : Cause → Lent → Outcome
-refused c x = outcome x (Refused c) []
+refused c x = outcome x (Err c) []
 
 -- the call o where the test passes, else refused
 unfoldable pub unless : Bool → Cause → Lent → Outcome → Outcome
@@ -108,7 +108,7 @@ module _ (G : Geometry) where
   opening x =
       let t = opened G (tables_of x).alloc in
       guarded (every (good? G ∷ tables_fit x ∷ [])) true true true x
-      (outcome (lent (recorder (packed t) t.used x.unit.flash) x.buffer x.scratch) (Moved 0) [])
+      (outcome (lent (recorder (packed t) t.used x.unit.flash) x.buffer x.scratch) (Ok 0) [])
 
   -- Lent: words, use marks, the flash's bytes, the buffer; scratch: seen.
   -- "bytes at the offset of the mapped page"; "bytes of a read's buffer beyond the length stay"
@@ -129,7 +129,7 @@ module _ (G : Geometry) where
       (leb (offset G sector + len) G.s)
       x
       (unless (not (eqb (word_of (tables_of x) l) empty)) Unmapped x
-      (outcome (lent x.unit (splice 0 shown x.buffer) x.scratch) (Moved len) []))
+      (outcome (lent x.unit (splice 0 shown x.buffer) x.scratch) (Ok len) []))
 
   -- Lent: words, use marks, the buffer; scratch: seen. The buffer's need is fixed by the geometry, so "checkpoint buffer too short" is a size.
   -- "Length 44 + 4e + 4n; encoding answers it; a longer buffer's bytes beyond stay."
@@ -141,7 +141,7 @@ module _ (G : Geometry) where
       true
       true
       x
-      (outcome (lent x.unit (splice 0 (sealed G (tables_of x)) x.buffer) x.scratch) (Moved (file_size G)) [])
+      (outcome (lent x.unit (splice 0 (sealed G (tables_of x)) x.buffer) x.scratch) (Ok (file_size G)) [])
 
   -- Lent: the file b, words, use marks; scratch: taken marks.
   -- "Lent tables of wrong size get 22 first." "Any reason leaves tables and flash unchanged." "success answers 0"
@@ -152,7 +152,7 @@ module _ (G : Geometry) where
       let r = reason_of G b in
       guarded (every (good? G ∷ tables_fit x ∷ clean (pages G ∷ []) x.scratch ∷ [])) true true true x
       (unless (eqb r 0) (Reason r) x
-      (outcome (lent (recorder (packed t) t.used x.unit.flash) x.buffer x.scratch) (Moved 0) []))
+      (outcome (lent (recorder (packed t) t.used x.unit.flash) x.buffer x.scratch) (Ok 0) []))
 
   module _ (bad : List ℕ) where
     -- what write and the collections test first

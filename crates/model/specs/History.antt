@@ -1,7 +1,7 @@
 -- Histories: the public calls one after another, power cuts, and which states they reach.
 use Rattle.std.specs.Prelude.{ℕ, zero, suc, ◌+◌, ◌*◌, ◌<◌, ◌≡◌, ◌≢◌, ◌⊎◌, List, [], ◌∷◌, length, get_or, set, take}
 use Rattle.model.specs.Lists.{on_slot, zeros}
-use Rattle.model.specs.Numbers.{Geometry, Answer, Moved, Refused, empty, endless, seg_of}
+use Rattle.model.specs.Numbers.{Geometry, Answer, Ok, Err, empty, endless, seg_of}
 use Rattle.model.specs.Causes.{Kind, in_tests, in_read, in_write, in_copy, in_erase, in_file, kind_of, AtDevice}
 use Rattle.model.specs.Tables.{view, packed, pages}
 use Rattle.model.specs.Device.{Flash, flash, formatted_flash, Op, Program, EraseSeg, state, perform}
@@ -56,8 +56,8 @@ map_in G r = (view G r.words r.used).map
 
 -- an opening or a restore makes tables of whatever was lent; then come calls, with any fuse
 pub data Reached (G : Geometry) (bad : List ℕ) : Recorder → Type 0 where
-  by_opening : (r : Recorder) → (run G bad Open r).answer ≡ Moved 0 → Reached G bad (after G bad Open r)
-  by_restoring : (r : Recorder) (q : Queueing) (b : List ℕ) (s : List (List ℕ)) → (run G bad (Restore q b s) r).answer ≡ Moved 0
+  by_opening : (r : Recorder) → (run G bad Open r).answer ≡ Ok 0 → Reached G bad (after G bad Open r)
+  by_restoring : (r : Recorder) (q : Queueing) (b : List ℕ) (s : List (List ℕ)) → (run G bad (Restore q b s) r).answer ≡ Ok 0
       → Reached G bad (after G bad (Restore q b s) r)
   called : {r : Recorder} → Reached G bad r → (c : Call) → Reached G bad (after G bad c r)
   lent_fuse : {r : Recorder} → Reached G bad r → (f : ℕ) → Reached G bad (lit f r)
@@ -77,8 +77,8 @@ Begins (CollectThreshold t m s) = ⊥
 Begins (Encode b s) = ⊥
 
 abbrev pub IsRefused : Answer → Type 0
-IsRefused (Moved m) = ⊥
-IsRefused (Refused c) = Unit {0}
+IsRefused (Ok m) = ⊥
+IsRefused (Err c) = Unit {0}
 
 -- any fuse and bad list may be lent to each call; a refused opening or restore changes nothing, and is none; formatting may come again, whole or cut short
 pub data InService (G : Geometry) : Recorder → Type 0 where
@@ -97,8 +97,8 @@ AtProgramming (in_file r) = ⊥
 
 -- if so, then because the fuse is out: of an answer, and the flash that is left
 abbrev pub OnlyFuse : Answer → Flash → Type 0
-OnlyFuse (Moved m) f = Unit {0}
-OnlyFuse (Refused c) f = AtProgramming (kind_of c) → f.fuse ≡ 0
+OnlyFuse (Ok m) f = Unit {0}
+OnlyFuse (Err c) f = AtProgramming (kind_of c) → f.fuse ≡ 0
 
 -- ---- power cuts
 
@@ -160,10 +160,10 @@ pub data Since (G : Geometry) (bad : List ℕ) (r₀ : Recorder) (file : List �
       → Cut G i (ops_of G bad c r) r.flash f
       → (w u : List ℕ) → Since G bad r₀ file lost (recorder w u f)
   regained : {r : Recorder} → Since G bad r₀ file lost r → (q : Queueing) (s : List (List ℕ))
-      → (run G bad (Restore q file s) r).answer ≡ Moved 0
+      → (run G bad (Restore q file s) r).answer ≡ Ok 0
       → Since G bad r₀ file running (after G bad (Restore q file s) r)
 
 -- "restoring it over the flash as it stands gives each logical page exactly what it held when the checkpoint was taken, nothing included"
 pub record GivesBack (G : Geometry) (bad : List ℕ) (r₀ : Recorder) (file : List ℕ) (q : Queueing) (r : Recorder) : Type 0 where
-  pub answer : (run G bad (Restore q file (zeros (pages G) ∷ [])) r).answer ≡ Moved 0
+  pub answer : (run G bad (Restore q file (zeros (pages G) ∷ [])) r).answer ≡ Ok 0
   pub contents : (l : ℕ) → content_of G (after G bad (Restore q file (zeros (pages G) ∷ [])) r) l ≡ content_of G r₀ l

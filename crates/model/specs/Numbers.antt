@@ -1,13 +1,16 @@
 -- Document 01, "Geometry and numbers"; 02, M-101, its numbers.
-use Rattle.std.specs.Prelude.{ℕ, zero, suc, ◌+◌, ◌*◌, ◌^◌, ◌/◌, ◌%◌, ◌≤◌, Bool, cond, List, [], ◌∷◌, leb, eqb, ℤ, pos, negsuc}
+use Rattle.std.specs.Prelude.{Result, ℕ, zero, suc, ◌+◌, ◌*◌, ◌^◌, ◌/◌, ◌%◌, ◌≤◌, Bool, cond, List, [], ◌∷◌, leb, eqb, ℤ, pos, negsuc}
 use Rattle.model.specs.Lists.{every}
 pub use Rattle.model.specs.declared.Geometry.{Geometry}
 pub use Rattle.model.specs.declared.Numbers.{Numbers}
 pub use Rattle.model.specs.declared.Numbers.TheVariants.{Old, New}
 pub use Rattle.model.specs.declared.Cause.{Cause}
 pub use Rattle.model.specs.declared.Cause.TheVariants.{Wrong, Unsound, Unmapped, NoRoom, Device, CopyNoRoom, CopyDevice, Erase, Reason}
-pub use Rattle.model.specs.declared.Answer.{Answer}
-pub use Rattle.model.specs.declared.Answer.TheVariants.{Moved, Refused}
+pub use Rattle.std.specs.Prelude.{Ok, Err}
+
+-- what a call answers: bytes moved or passes counted, or a refusal
+abbrev pub Answer : Type 0
+Answer = Result ℕ Cause
 
 abbrev pub geometry : (n p s w e limit : ℕ) → Geometry
 geometry n p s w e limit = record { n = n; p = p; s = s; w = w; e = e; limit = limit }
@@ -100,8 +103,8 @@ negated zero = pos 0
 negated (suc r) = negsuc r
 
 abbrev pub number : Numbers → Answer → ℤ
-number N (Moved m) = pos m
-number N (Refused c) = negated (refusal N c)
+number N (Ok m) = pos m
+number N (Err c) = negated (refusal N c)
 
 -- "after 28 and 121 are read as 14"
 abbrev pub as_old : ℤ → ℤ

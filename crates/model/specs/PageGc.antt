@@ -1,7 +1,7 @@
 -- Document 01, step 5 and the threshold of step 6: take, drain, finish; one collection, from the list, by a threshold.
 use Rattle.std.specs.Prelude.{ℕ, zero, suc, ◌+◌, ◌-◌, cond, List, [], ◌∷◌, ◌++◌, ltb, eqb, set, drop, replicate}
 use Rattle.model.specs.Lists.{on_slot, sort_by, total}
-use Rattle.model.specs.Numbers.{Geometry, Answer, Moved, Refused, Cause, Wrong, Unsound, Unmapped, NoRoom, Device, CopyNoRoom, CopyDevice, Erase, Reason}
+use Rattle.model.specs.Numbers.{Geometry, Answer, Ok, Err, Cause, Wrong, Unsound, Unmapped, NoRoom, Device, CopyNoRoom, CopyDevice, Erase, Reason}
 use Rattle.model.specs.Tables.{Tables, at, queue_of, set_free, set_valid, set_used, set_lists, set_lens, set_queue, set_flags, set_queued}
 use Rattle.model.specs.Sound.{slot_of}
 use Rattle.model.specs.Device.{State, state, Out, out, EraseSeg, may_erase, raised, erased, refuse, finish, and_then}
@@ -40,8 +40,8 @@ of_copy Erase = Erase
 of_copy (Reason r) = Reason r
 
 abbrev pub copy_answer : Answer → Answer
-copy_answer (Moved m) = Moved m
-copy_answer (Refused c) = Refused (of_copy c)
+copy_answer (Ok m) = Ok m
+copy_answer (Err c) = Err (of_copy c)
 
 abbrev pub as_copy_out : Out → Out
 as_copy_out o = out o.st (copy_answer o.answer) o.ops
@@ -60,7 +60,7 @@ module _ (G : Geometry) where
 
   -- "Then erase, reset the record, clear the flag, answer 0."
   abbrev pub cleared : ℕ → State → Out
-  cleared v st = out (state (unflag v (reset v st.tab)) (erased G v st.flash)) (Moved 0) (EraseSeg v (raised G v st.flash) ∷ [])
+  cleared v st = out (state (unflag v (reset v st.tab)) (erased G v st.flash)) (Ok 0) (EraseSeg v (raised G v st.flash) ∷ [])
 
   unfoldable pub finish_of : ℕ → State → Out
   finish_of v st = cond (may_erase G v st.flash) (cleared v st) (refuse Erase st)

@@ -1,20 +1,29 @@
 -- Document 01, step 2 and the table part of step 4: finding a page, spending it, invalidating, placing.
-use Rattle.std.specs.Prelude.{ℕ, zero, suc, ◌+◌, ◌*◌, ◌-◌, ◌%◌, Bool, cond, ◌&&◌, List, ltb, eqb, set}
+use Rattle.std.specs.Prelude.{Option, ℕ, zero, suc, ◌+◌, ◌*◌, ◌-◌, ◌%◌, Bool, cond, ◌&&◌, List, ltb, eqb, set}
 use Rattle.model.specs.Lists.{on_slot, without, push_front}
 use Rattle.model.specs.Numbers.{Geometry, empty, addr, seg_of}
 use Rattle.model.specs.Tables.{Tables, at, word_of, set_map, set_free, set_valid, set_used, set_lists, set_lens, set_queue, set_flags, set_alloc, set_queued}
-pub use Rattle.model.specs.declared.Found.{Found}
-pub use Rattle.model.specs.declared.Found.TheVariants.{At, Nothing}
+pub use Rattle.std.specs.Prelude.{Some, None}
+pub use Rattle.model.specs.declared.Spot.{Spot}
+
+-- page k of segment g
+abbrev pub spot : (g k : ℕ) → Spot
+spot g k = record { segment = g; page = k }
+
+-- "Finding a page should say whether no segment had room": where the page is; on sound tables `None` exactly when no segment outside the bad list has
+-- a free page (`found`, proofs/Find.antt)
+abbrev pub Found : Type 0
+Found = Option Spot
 
 abbrev pub or_else : Found → Found → Found
-or_else (At g k) r = At g k
-or_else Nothing r = r
+or_else (Some x) r = Some x
+or_else None r = r
 
 module _ (G : Geometry) where
   -- the first page of segment g, of f pages from k on, whose use mark is clear
   unfoldable pub clear_from : List ℕ → ℕ → ℕ → ℕ → Found
-  clear_from used g k zero = Nothing
-  clear_from used g k (suc f) = let r = clear_from used g (suc k) f in cond (eqb (at used (g * G.p + k)) 0) (At g k) r
+  clear_from used g k zero = None
+  clear_from used g k (suc f) = let r = clear_from used g (suc k) f in cond (eqb (at used (g * G.p + k)) 0) (Some (spot g k)) r
 
   module _ (bad : List ℕ) where
     -- ".. passing bad segments and those with free count 0"
@@ -23,7 +32,7 @@ module _ (G : Geometry) where
 
     -- the walk over f segments, from the i-th after the allocation segment on
     unfoldable pub find_from : Tables → ℕ → ℕ → Found
-    find_from t i zero = Nothing
+    find_from t i zero = None
     find_from t i (suc f) =
         let g = (t.alloc + i) % G.n in
         let r = find_from t (suc i) f in

@@ -1,10 +1,10 @@
 -- Document 01, steps 3 and 4: what a logical page holds, and the inner write.
 use Rattle.std.specs.Prelude.{ℕ, cond, List, [], ◌∷◌, eqb, length, replicate}
 use Rattle.model.specs.Lists.{splice}
-use Rattle.model.specs.Numbers.{Geometry, Moved, NoRoom, Device, empty}
+use Rattle.model.specs.Numbers.{Geometry, Ok, NoRoom, Device, empty}
 use Rattle.model.specs.Tables.{word_of}
 use Rattle.model.specs.Device.{State, state, Out, out, Program, page_at, may_program, programmed, refuse}
-use Rattle.model.specs.PageMap.{Found, At, Nothing, find, spend, forget, place}
+use Rattle.model.specs.PageMap.{Found, Some, None, find, spend, forget, place}
 
 -- what a logical page holds
 pub data Content : Type 0 where
@@ -28,7 +28,7 @@ module _ (G : Geometry) where
   stored l len g k page st =
       out
       (state (place G l g k (forget G l (spend G g k st.tab))) (programmed G g k page st.flash))
-      (Moved len)
+      (Ok len)
       (Program g k page ∷ [])
 
   -- "the page found is spent: used, free -1, valid +1, allocation segment set; map, lists, queue, flash unchanged"
@@ -36,9 +36,12 @@ module _ (G : Geometry) where
   spent g k st = refuse Device (state (spend G g k st.tab) st.flash)
 
   unfoldable pub write_at : Found → ℕ → ℕ → List ℕ → State → Out
-  write_at Nothing l off d st = refuse NoRoom st
-  write_at (At g k) l off d st =
-      cond (may_program G g k st.flash) (stored l (length d) g k (splice off d (old_page st l)) st) (spent g k st)
+  write_at None l off d st = refuse NoRoom st
+  write_at (Some x) l off d st =
+      cond
+      (may_program G x.segment x.page st.flash)
+      (stored l (length d) x.segment x.page (splice off d (old_page st l)) st)
+      (spent x.segment x.page st)
 
   -- "find a page; build .. ; lay the caller's bytes in; program": the bytes d at offset off of logical page l
   unfoldable pub write_page : List ℕ → ℕ → ℕ → List ℕ → State → Out

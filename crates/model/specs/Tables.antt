@@ -1,5 +1,5 @@
 -- The tables that a caller lends, and how they lie in memory: all words in one slice, the use marks in another.
-use Rattle.std.specs.Prelude.{ℕ, ◌+◌, ◌*◌, List, ◌∷◌, ◌++◌, get_or, take, drop}
+use Rattle.std.specs.Prelude.{ℕ, ◌+◌, ◌*◌, ◌≡◌, List, ◌∷◌, ◌++◌, length, get_or, take, drop}
 use Rattle.model.specs.Lists.{slot}
 use Rattle.model.specs.Numbers.{Geometry, empty}
 
@@ -102,6 +102,17 @@ module _ (G : Geometry) where
 
   abbrev pub pages : ℕ
   pages = G.n * G.p
+
+  -- each part has the size that the geometry gives it
+  pub record Sized (t : Tables) : Type 0 where
+    pub map : length t.map ≡ G.e
+    pub free : length t.free ≡ G.n
+    pub valid : length t.valid ≡ G.n
+    pub used : length t.used ≡ G.n * G.p
+    pub lists : length t.lists ≡ G.n * G.p
+    pub lens : length t.lens ≡ G.n
+    pub queue : length t.queue ≡ G.n
+    pub flags : length t.flags ≡ G.n
 
   -- the tables that lie in the words w and the use marks u
   unfoldable pub view : List ℕ → List ℕ → Tables

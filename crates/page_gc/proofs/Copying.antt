@@ -6,8 +6,8 @@ use mathlib.Core.Logic.{◌≢◌}
 use mathlib.Core.List.{List, []}
 use lib.ListN.{length, length-replicate}
 use Rattle.model.specs.declared.Geometry.{Geometry}
-use Rattle.model.specs.declared.Answer.{Answer}
-use Rattle.model.specs.declared.Answer.TheVariants.{Moved, Refused}
+use Rattle.model.specs.Numbers.{Answer}
+use Rattle.model.specs.Numbers.{Ok, Err}
 use Rattle.model.specs.declared.Cause.{Cause}
 use Rattle.model.specs.Lists.{zeros}
 use Rattle.model.specs.Numbers.{empty}
@@ -25,13 +25,13 @@ use Rattle.model.proofs.Turns.{drain_more, drain_stops, drain-empty}
 use Rattle.model.proofs.Held.{counted, held_by}
 
 -- a copy's answer that is no count was a write's refusal
-pub copy_refused : (a : Answer) (x : Cause) → copy_answer a ≡ Refused x → (c : Cause) × (a ≡ Refused c) × (x ≡ of_copy c)
-copy_refused (Moved k) x e = absurd (let z : ◌≡◌ {A = ℕ} 0 1 = cc in omega arith)
-copy_refused (Refused c) x e = (c, refl, cc)
+pub copy_refused : (a : Answer) (x : Cause) → copy_answer a ≡ Err x → (c : Cause) × (a ≡ Err c) × (x ≡ of_copy c)
+copy_refused (Ok k) x e = absurd (let z : ◌≡◌ {A = ℕ} 0 1 = cc in omega arith)
+copy_refused (Err c) x e = (c, refl, cc)
 
-pub copy_moved : (a : Answer) (k : ℕ) → copy_answer a ≡ Moved k → a ≡ Moved k
-copy_moved (Moved j) k e = e
-copy_moved (Refused c) k e = absurd (let z : ◌≡◌ {A = ℕ} 0 1 = cc in omega arith)
+pub copy_moved : (a : Answer) (k : ℕ) → copy_answer a ≡ Ok k → a ≡ Ok k
+copy_moved (Ok j) k e = e
+copy_moved (Err c) k e = absurd (let z : ◌≡◌ {A = ℕ} 0 1 = cc in omega arith)
 
 module _ (G : Geometry) (bad : List ℕ) (v : ℕ) where
   abbrev state_of : (w u b m c : List ℕ) (f : ℕ) → State
@@ -53,10 +53,10 @@ module _ (G : Geometry) (bad : List ℕ) (v : ℕ) where
   module _ (w₀ u₀ b₀ m₀ : List ℕ) (f₀ : ℕ) (w u b m page : List ℕ) (f j : ℕ) where
     -- the list is empty
     pub copying_empty : Copying w₀ u₀ b₀ m₀ f₀ w u b m page f j → at (view G w u).lens v ≡ 0 → (c : List ℕ)
-        → Done (drain G bad G.p v (state_of w₀ u₀ b₀ m₀ c f₀)) (Moved 0) (state_of w u b m c f)
+        → Done (drain G bad G.p v (state_of w₀ u₀ b₀ m₀ c f₀)) (Ok 0) (state_of w u b m c f)
     copying_empty C e c =
-        C.goes c (Moved 0) (state_of w u b m c f)
-        (subst (λ o. Done o (Moved 0) (state_of w u b m c f)) (sym (drain-empty G bad j v (state_of w u b m c f) e)) (record { answer = refl; left = refl }))
+        C.goes c (Ok 0) (state_of w u b m c f)
+        (subst (λ o. Done o (Ok 0) (state_of w u b m c f)) (sym (drain-empty G bad j v (state_of w u b m c f) e)) (record { answer = refl; left = refl }))
 
     -- a copy of the last page l
     module _ (C : Copying w₀ u₀ b₀ m₀ f₀ w u b m page f (suc j)) (some : at (view G w u).lens v ≢ 0) (l : ℕ) (last : l ≡ last_of G v (view G w u)) where
@@ -100,7 +100,7 @@ module _ (G : Geometry) (bad : List ℕ) (v : ℕ) where
         done_last c = subst (λ x. Done (write_page G bad x 0 [] (state_of w u b m c f)) a (state_of w' u' b' m' c f')) last (done c)
 
         -- it was done: one copy less is left
-        pub copying_more : (page' : List ℕ) (k : ℕ) → a ≡ Moved k → length w' ≡ length w → length b' ≡ length b → length m' ≡ length m → page' ≡ zeros G.s
+        pub copying_more : (page' : List ℕ) (k : ℕ) → a ≡ Ok k → length w' ≡ length w → length b' ≡ length b → length m' ≡ length m → page' ≡ zeros G.s
             → Copying w₀ u₀ b₀ m₀ f₀ w' u' b' m' page' f' j
         copying_more page' k e ew eb em ep =
             record {
@@ -116,20 +116,20 @@ module _ (G : Geometry) (bad : List ℕ) (v : ℕ) where
             }
 
         -- it was refused: the drain ends there
-        stops : (x : Cause) → a ≡ Refused x → (c : List ℕ)
-            → Done (drain G bad G.p v (state_of w₀ u₀ b₀ m₀ c f₀)) (Refused (of_copy x)) (state_of w' u' b' m' c f')
+        stops : (x : Cause) → a ≡ Err x → (c : List ℕ)
+            → Done (drain G bad G.p v (state_of w₀ u₀ b₀ m₀ c f₀)) (Err (of_copy x)) (state_of w' u' b' m' c f')
         stops x e c =
-            C.goes c (Refused (of_copy x)) (state_of w' u' b' m' c f')
-            (drain_stops G bad v (state_of w u b m c f) mapped some j x (Refused (of_copy x)) (state_of w' u' b' m' c f') (sym (done_last c).answer ∙ e) refl (done_last c).left)
+            C.goes c (Err (of_copy x)) (state_of w' u' b' m' c f')
+            (drain_stops G bad v (state_of w u b m c f) mapped some j x (Err (of_copy x)) (state_of w' u' b' m' c f') (sym (done_last c).answer ∙ e) refl (done_last c).left)
 
-        pub copying_stops : (r : Answer) (y : Cause) → r ≡ copy_answer a → r ≡ Refused y → (c : List ℕ)
+        pub copying_stops : (r : Answer) (y : Cause) → r ≡ copy_answer a → r ≡ Err y → (c : List ℕ)
             → Done (drain G bad G.p v (state_of w₀ u₀ b₀ m₀ c f₀)) r (state_of w' u' b' m' c f')
         copying_stops r y p q c =
-            let z : (x : Cause) × (a ≡ Refused x) × (y ≡ of_copy x) = copy_refused a y (sym p ∙ q) in
-            subst (λ o. Done (drain G bad G.p v (state_of w₀ u₀ b₀ m₀ c f₀)) o (state_of w' u' b' m' c f')) (sym (q ∙ ap Refused z.2)) (stops z.0 z.1 c)
+            let z : (x : Cause) × (a ≡ Err x) × (y ≡ of_copy x) = copy_refused a y (sym p ∙ q) in
+            subst (λ o. Done (drain G bad G.p v (state_of w₀ u₀ b₀ m₀ c f₀)) o (state_of w' u' b' m' c f')) (sym (q ∙ ap Err z.2)) (stops z.0 z.1 c)
 
   -- all copies that are allowed were made: on sound tables the list is empty then
   pub copying_end : (w₀ u₀ b₀ m₀ : List ℕ) (f₀ : ℕ) (w u b m page : List ℕ) (f : ℕ) → Copying w₀ u₀ b₀ m₀ f₀ w u b m page f 0 → (c : List ℕ)
-      → Done (drain G bad G.p v (state_of w₀ u₀ b₀ m₀ c f₀)) (Moved 0) (state_of w u b m c f)
+      → Done (drain G bad G.p v (state_of w₀ u₀ b₀ m₀ c f₀)) (Ok 0) (state_of w u b m c f)
   unfolding drain
-  copying_end w₀ u₀ b₀ m₀ f₀ w u b m page f C c = C.goes c (Moved 0) (state_of w u b m c f) (record { answer = refl; left = refl })
+  copying_end w₀ u₀ b₀ m₀ f₀ w u b m page f C c = C.goes c (Ok 0) (state_of w u b m c f) (record { answer = refl; left = refl })

@@ -9,8 +9,8 @@ use mathlib.Core.Logic.{◌≢◌}
 use mathlib.Core.List.{List}
 use lib.ListN.{length}
 use Rattle.model.specs.declared.Geometry.{Geometry}
-use Rattle.model.specs.declared.Answer.{Answer}
-use Rattle.model.specs.declared.Answer.TheVariants.{Moved, Refused}
+use Rattle.model.specs.Numbers.{Answer}
+use Rattle.model.specs.Numbers.{Ok, Err}
 use Rattle.model.specs.declared.Cause.{Cause}
 use Rattle.model.specs.declared.Cause.TheVariants.{Erase}
 use Rattle.model.specs.Lists.{zeros}
@@ -48,12 +48,12 @@ module _ (G : Geometry) (bad : List ℕ) where
       subst (λ x. Done (drain G bad G.p x (state (taken t) f)) r s) e (subst (λ x. Done (drain G bad G.p v (state x f)) r s) q D)
 
   -- nothing queued
-  pub pass_none : (st : State) → st.tab.queued ≡ 0 → Done (collect G bad st) (Moved 0) st
-  pass_none st e = subst (λ o. Done o (Moved 0) st) (sym (collect_none G bad st e)) (record { answer = refl; left = refl })
+  pub pass_none : (st : State) → st.tab.queued ≡ 0 → Done (collect G bad st) (Ok 0) st
+  pass_none st e = subst (λ o. Done o (Ok 0) st) (sym (collect_none G bad st e)) (record { answer = refl; left = refl })
 
   -- the victim's list is drained, and the erase decides
   module _ (st : State) (some : st.tab.queued ≢ 0) (k : ℕ) (s : State)
-      (drained : Done (drain G bad G.p (victim st.tab) (state (taken st.tab) st.flash)) (Moved k) s)
+      (drained : Done (drain G bad G.p (victim st.tab) (state (taken st.tab) st.flash)) (Ok k) s)
       (ok : Bool) (f : Flash) (tried : Tried (may_erase G (victim st.tab) s.flash) (erased G (victim st.tab) s.flash) s.flash ok f) where
     abbrev v : ℕ
     v = victim st.tab
@@ -61,15 +61,15 @@ module _ (G : Geometry) (bad : List ℕ) where
     after_is : {x : Bool} → ok ≡ x → f ≡ cond x (erased G v s.flash) s.flash
     after_is {x} e = tried.left ∙ ap (λ (y : Bool). cond y (erased G v s.flash) s.flash) (sym tried.ok ∙ e)
 
-    pub pass_refused : ok ≡ false → {t : Tables} → t ≡ s.tab → Done (collect G bad st) (Refused Erase) (state t f)
+    pub pass_refused : ok ≡ false → {t : Tables} → t ≡ s.tab → Done (collect G bad st) (Err Erase) (state t f)
     pass_refused e {t} q =
-        collect_ends G bad st some k (Refused Erase) s (state t f) drained
-        (subst (λ o. Done o (Refused Erase) (state t f)) (sym (finish-refused G v s (sym tried.ok ∙ e))) (record { answer = refl; left = rw (q, after_is e) }))
+        collect_ends G bad st some k (Err Erase) s (state t f) drained
+        (subst (λ o. Done o (Err Erase) (state t f)) (sym (finish-refused G v s (sym tried.ok ∙ e))) (record { answer = refl; left = rw (q, after_is e) }))
 
-    pub pass_done : ok ≡ true → {t : Tables} → t ≡ unflag G v (reset G v s.tab) → Done (collect G bad st) (Moved 0) (state t f)
+    pub pass_done : ok ≡ true → {t : Tables} → t ≡ unflag G v (reset G v s.tab) → Done (collect G bad st) (Ok 0) (state t f)
     pass_done e {t} q =
-        collect_ends G bad st some k (Moved 0) s (state t f) drained
-        (subst (λ o. Done o (Moved 0) (state t f)) (sym (finish-done G v s (sym tried.ok ∙ e))) (record { answer = refl; left = rw (q, after_is e) }))
+        collect_ends G bad st some k (Ok 0) s (state t f) drained
+        (subst (λ o. Done o (Ok 0) (state t f)) (sym (finish-done G v s (sym tried.ok ∙ e))) (record { answer = refl; left = rw (q, after_is e) }))
 
   -- a pass keeps the tables sound
   pub pass_held : (w u b m c page : List ℕ) (f : ℕ) → Held G w u → Ready G bad page b m → length c ≡ G.n → (r : Answer) (w' u' : List ℕ) (f' : Flash)
@@ -110,10 +110,10 @@ module _ (G : Geometry) (bad : List ℕ) where
     st = state (view G w u) (flash b x c f)
 
     -- m are counted
-    pub listing_end : (k < m → ⊥) → Done (collect_more G bad m 0 st₀) (Moved k) st
+    pub listing_end : (k < m → ⊥) → Done (collect_more G bad m 0 st₀) (Ok k) st
     listing_end n =
         let e : 0 ≡ m - k = omega (arith, L.most) in
-        L.goes (Moved k) st (subst (λ j. Done (collect_more G bad j k st) (Moved k) st) e (list_none G bad k st))
+        L.goes (Ok k) st (subst (λ j. Done (collect_more G bad j k st) (Ok k) st) e (list_none G bad k st))
 
     -- one pass, which answered r and left st'
     module _ (less : k < m) (r : Answer) (st' : State) (D : Done (collect G bad st) r st') where
@@ -124,16 +124,16 @@ module _ (G : Geometry) (bad : List ℕ) where
       from a s E = L.goes a s (subst (λ j. Done (collect_more G bad j k st) a s) left_is E)
 
       -- refused
-      pub listing_stops : (e : Cause) → r ≡ Refused e → Done (collect_more G bad m 0 st₀) r st'
+      pub listing_stops : (e : Cause) → r ≡ Err e → Done (collect_more G bad m 0 st₀) r st'
       listing_stops e q = from r st' (list_stops G bad (m - (k + 1)) k st e r st' q D)
 
-      module _ (y : ℕ) (q : r ≡ Moved y) where
-        D' : Done (collect G bad st) (Moved y) st'
+      module _ (y : ℕ) (q : r ≡ Ok y) where
+        D' : Done (collect G bad st) (Ok y) st'
         D' = subst (λ a. Done (collect G bad st) a st') q D
 
         -- the queue is empty: stop before counting
-        pub listing_drained : st'.tab.queued ≡ 0 → Done (collect_more G bad m 0 st₀) (Moved k) st'
-        listing_drained e = from (Moved k) st' (list_ends G bad (m - (k + 1)) k st y st' D' e)
+        pub listing_drained : st'.tab.queued ≡ 0 → Done (collect_more G bad m 0 st₀) (Ok k) st'
+        listing_drained e = from (Ok k) st' (list_ends G bad (m - (k + 1)) k st y st' D' e)
 
         -- else count one
         pub listing_goes : st'.tab.queued ≢ 0 → (a : Answer) (s : State) → Done (collect_more G bad (m - (k + 1)) (k + 1) st') a s → Done (collect_more G bad m 0 st₀) a s

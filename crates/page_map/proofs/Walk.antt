@@ -11,8 +11,8 @@ use borrow.Author.Tests.{eq-eqb, ne_eqb, lt-ltb}
 use Rattle.model.specs.declared.Geometry.{Geometry}
 use Rattle.model.specs.Tables.{at, view, o_free}
 use Rattle.model.specs.Contract.{Held}
-use Rattle.model.specs.declared.Found.{Found}
-use Rattle.model.specs.declared.Found.TheVariants.{At, Nothing}
+use Rattle.model.specs.PageMap.{Found}
+use Rattle.model.specs.PageMap.{Some, spot, None}
 use Rattle.model.specs.PageMap.{clear_from, or_else, usable, find_from, find}
 use Rattle.model.proofs.View.{free_at, used_is}
 use Rattle.model.proofs.Held.{counted}
@@ -28,7 +28,7 @@ module _ (G : Geometry) (used : List ℕ) (g : ℕ) where
   abbrev scan : ℕ → Found
   scan k = clear_from G used g k (G.p - k)
 
-  scan_hit : (k : ℕ) → k < G.p → at used (g * G.p + k) ≡ 0 → scan k ≡ At g k
+  scan_hit : (k : ℕ) → k < G.p → at used (g * G.p + k) ≡ 0 → scan k ≡ Some (spot g k)
   unfolding clear_from
   scan_hit k h e = rw (step h, eq-eqb _ _ e)
 
@@ -46,7 +46,7 @@ module _ (G : Geometry) (bad w u : List ℕ) (i : ℕ) where
   abbrev pub from : Found
   from = find_from G bad (view G w u) i (G.n - i)
 
-  pub walk_end : G.n ≤ i → from ≡ Nothing
+  pub walk_end : G.n ≤ i → from ≡ None
   unfolding find_from
   walk_end h = rw (done h)
 
@@ -90,9 +90,9 @@ module _ (G : Geometry) (bad w u : List ℕ) (i : ℕ) (h : i < G.n) (g : ℕ) (
   clear H b = ap (λ x. at x (g * G.p + first)) (sym (used_is G w u)) ∙ (counted H).clear g first low b (omega (arith, free_is))
 
   -- .. so the search stops there
-  pub walk_here : Held G w u → at bad g ≡ 0 → at w (o_free G + g) ≢ 0 → from G bad w u i ≡ At g first
+  pub walk_here : Held G w u → at bad g ≡ 0 → at w (o_free G + g) ≢ 0 → from G bad w u i ≡ Some (spot g first)
   walk_here H b f =
       let some : 0 < at w (o_free G + g) = omega arith in
       let in-it : first < G.p = omega (arith, free_is, (counted H).free≤ g) in
-      let found : scan G u g 0 ≡ At g first = scan_on G u g first (omega arith) (marked H) ∙ scan_hit G u g first in-it (clear H in-it) in
+      let found : scan G u g 0 ≡ Some (spot g first) = scan_on G u g first (omega arith) (marked H) ∙ scan_hit G u g first in-it (clear H in-it) in
       rw (walk_step, eq-eqb _ _ b, free_is, lt-ltb _ _ some, found)

@@ -1,50 +1,37 @@
-// Steps 2 and 4 of document 01 on the packed tables: finding a page, spending it, invalidating, placing.
+// Steps 2 and 4 of document 01 on the lent tables: finding a page, spending it, invalidating, placing.
 #![tactic(auto)]
 
-ghost use Rattle.std.specs.Prelude.{◌≡◌, List, ℕ, ◌^◌, ◌≤◌, ◌<◌, eqb, length};
+ghost use Rattle.std.specs.Prelude.{◌≡◌, ◌≤◌, ◌<◌, length};
 ghost use Rattle.model.specs.Lists.{occ, without, push_front};
-ghost use Rattle.model.specs.Numbers.{Good, empty, addr, seg_of, page_of};
-ghost use Rattle.model.specs.Tables.{at, word_of, view, tab_words, o_queued};
-ghost use Rattle.model.specs.Sound.{Mapped};
-ghost use Rattle.model.specs.Contract.{Held};
+ghost use Rattle.model.specs.Numbers.{seg_of};
+ghost use Rattle.model.specs.Tables.{at, word_of};
+ghost use Rattle.model.specs.Sound.{Sound, Mapped};
 ghost use Rattle.model.specs.PageMap.{find, spend, unlink, enqueue, invalidate, forget, place};
 ghost use Rattle.model.specs.PageGc.{last_of};
-ghost use Rattle.page_map.specs.Parts.{index_of, close_up, Room};
+ghost use Rattle.tables.specs.Parts.{tables_of, Same};
+ghost use Rattle.page_map.specs.Parts.{close_up, Room};
 
-use model::{Found, Geometry, LogicalPage, PhysicalAddress};
-
-// Where x stands in a slot that holds it once. Looked for from the end: a collection drops a list's last page.
-fn index_of(slot: &[u32], x: u32) -> usize
-    requires { occ x slot.now ≡ 1 }
-    ensures { result ≡ index_of x slot.now }
-{
-    let mut i = slot.len() - 1;
-    while slot[i] != x {
-        i -= 1;
-    }
-    i
-}
+use model::{LogicalPage, PhysicalAddress, Spot};
+use tables::TablesMut;
 
 // The words behind place i one place down, a zero behind.
 pub fn close_up(slot: &mut [u32], i: usize)
     requires { i < length slot.old }
     ensures { slot.new ≡ close_up i slot.old }
 {
-    let mut m = 0;
-    while i + m + 1 < slot.len() {
-        slot[i + m] = slot[i + m + 1];
-        m += 1;
-    }
-    slot[i + m] = 0;
+    let last = slot.len() - 1;
+    slot.copy_within(i + 1.., i);
+    slot[last] = 0;
 }
 
-// x out of a slot that holds it once.
+// x out of a slot that holds it once. Looked for from the end: a collection drops a list's last page.
 fn remove(slot: &mut [u32], x: u32)
     requires { occ x slot.old ≡ 1 }
     ensures { slot.new ≡ without x slot.old }
 {
-    let i = index_of(slot, x);
-    close_up(slot, i);
+    if let Some(i) = slot.iter().rposition(|y| *y == x) {
+        close_up(slot, i);
+    }
 }
 
 // x in front, each word one place up, the last one gone.
@@ -52,252 +39,133 @@ fn push_front(queue: &mut [u32], x: u32)
     requires { 0 < length queue.old }
     ensures { queue.new ≡ push_front x queue.old }
 {
-    let mut i = 0;
-    let mut carry = x;
-    while i < queue.len() {
-        let y = queue[i];
-        queue[i] = carry;
-        carry = y;
-        i += 1;
-    }
-}
-
-pub fn wide(x: u32) -> usize
-    ensures { result ≡ x }
-{
-    x as usize
-}
-
-// 2 to the power w: the pages that an address leaves to a segment.
-fn span(w: usize) -> usize
-    requires { w ≤ 16 }
-    ensures { result ≡ 2 ^ w }
-{
-    1usize << w
-}
-
-pub fn segment_of(geo: Geometry, a: PhysicalAddress) -> usize
-    requires { geo.w ≤ 16 }
-    ensures { result ≡ seg_of geo a.0 }
-{
-    wide(a.0) / span(geo.w)
-}
-
-pub fn page_of(geo: Geometry, a: PhysicalAddress) -> usize
-    requires { geo.w ≤ 16 }
-    ensures { result ≡ page_of geo a.0 }
-{
-    wide(a.0) % span(geo.w)
-}
-
-pub fn address_of(geo: Geometry, g: usize, k: usize) -> PhysicalAddress
-    requires good { Good geo }
-    requires g_lt_n { (g < geo.n) × (k < geo.p) }
-    ensures { result.0 ≡ addr geo g k }
-{
-    PhysicalAddress((g * span(geo.w) + k) as u32)
-}
-
-// "The empty word is 2^32-1, above every address."
-pub fn is_empty(a: PhysicalAddress) -> bool
-    ensures { result ≡ eqb a.0 empty }
-{
-    a.0 == 4294967295
-}
-
-// The map's word of logical page l.
-pub fn word_of(geo: Geometry, l: LogicalPage, tab: &[u32]) -> PhysicalAddress
-    requires { (l.0 < geo.e) × (length tab.now ≡ tab_words geo) }
-    ensures { (u : List ℕ) → result.0 ≡ word_of (view geo tab.now u) l.0 }
-{
-    let i = l.0;
-    PhysicalAddress(tab[i])
-}
-
-pub fn queue_length(geo: Geometry, tab: &[u32]) -> usize
-    requires { length tab.now ≡ tab_words geo }
-    ensures { (u : List ℕ) → result ≡ (view geo tab.now u).queued }
-{
-    let e = geo.e;
-    let n = geo.n;
-    let m = e + n * 5 + 1;
-    wide(tab[m])
-}
-
-pub fn list_length(geo: Geometry, g: usize, tab: &[u32]) -> usize
-    requires { (g < geo.n) × (length tab.now ≡ tab_words geo) }
-    ensures { (u : List ℕ) → result ≡ at (view geo tab.now u).lens g }
-{
-    let e = geo.e;
-    let n = geo.n;
-    let c = e + n * 2 + g;
-    wide(tab[c])
+    let last = queue.len() - 1;
+    queue.copy_within(..last, 1);
+    queue[0] = x;
 }
 
 // The last logical page of segment v's list.
-pub fn last_listed(geo: Geometry, v: usize, tab: &[u32]) -> LogicalPage
-    requires by_index { (u : List ℕ) × Held geo tab.now u × (0 < at (view geo tab.now u).lens v) }
-    requires v_lt_n { v < geo.n }
-    ensures { (u : List ℕ) → result.0 ≡ last_of geo v (view geo tab.now u) }
+pub fn last_listed(t: &TablesMut<'_>, v: usize) -> LogicalPage
+    requires sound { Sound t.now.geo (tables_of t.now) }
+    requires listed { (v < t.now.geo.n) × (0 < at t.now.lens.now v) }
+    ensures { result.0 ≡ last_of t.now.geo v (tables_of t.now) }
 {
-    let e = geo.e;
-    let n = geo.n;
-    let p = geo.p;
-    let x = list_length(geo, v, tab);
-    let i = e + n * 5 + 2 + (v * p + (x - 1));
-    LogicalPage(wide(tab[i]))
+    let last = t.lens[v] as usize - 1;
+    LogicalPage(t.lists[v * t.geo.p + last] as usize)
 }
 
 // The first clear page of the first segment, from the allocation segment on, that is not bad and has one. The first-page rule: a segment's used pages are
-// its first ones, so its first clear page is page p - free. The marks are not looked at; they are lent because the promise names them.
-pub fn find_page(geo: Geometry, bad: &[u8], tab: &[u32], used: &[u8]) -> Found
-    requires held { Held geo tab.now used.now }
-    requires bad_len { length bad.now ≡ geo.n }
-    ensures { result ≡ find geo bad.now (view geo tab.now used.now) }
+// its first ones, so its first clear page is page p - free, and the marks are not looked at.
+pub fn find_page(t: &TablesMut<'_>, bad: &[u8]) -> Option<Spot>
+    requires sound { Sound t.now.geo (tables_of t.now) }
+    requires bad_len { length bad.now ≡ t.now.geo.n }
+    ensures { result ≡ find t.now.geo bad.now (tables_of t.now) }
 {
-    let e = geo.e;
-    let n = geo.n;
-    let h = e + n * 5;
-    let alloc = wide(tab[h]);
-    let mut i = 0;
-    'walk: loop {
-        if i >= n {
-            break 'walk Found::Nothing;
+    let n = t.geo.n;
+    let alloc = *t.alloc as usize;
+    for i in 0..n {
+        let segment = (alloc + i) % n;
+        let free = t.free[segment] as usize;
+        if bad[segment] == 0 && free != 0 {
+            return Some(Spot {
+                segment,
+                page: t.geo.p - free,
+            });
         }
-        let g = (alloc + i) % n;
-        if bad[g] == 0 {
-            let f = e + g;
-            let free = tab[f] as usize;
-            if free != 0 {
-                let first = geo.p - free;
-                break 'walk Found::At(g, first);
-            }
-        }
-        i += 1;
     }
+    None
 }
 
-// Page k of segment g is used from now on, and g is the allocation segment.
-pub fn spend(geo: Geometry, g: usize, k: usize, tab: &mut [u32], used: &mut [u8])
-    requires held { Held geo tab.old used.old }
-    requires g_lt_n { (g < geo.n) × (k < geo.p) × (0 < at (view geo tab.old used.old).free g) }
-    ensures { view geo tab.new used.new ≡ spend geo g k (view geo tab.old used.old) }
+// The page is used from now on, and its segment is the allocation segment.
+pub fn spend(t: &mut TablesMut<'_>, at: Spot)
+    requires sound { Sound t.old.geo (tables_of t.old) }
+    requires in_bounds { (at.segment < t.old.geo.n) × (at.page < t.old.geo.p) × (0 < at t.old.free.now at.segment) }
+    ensures same { Same t.old t.new }
+    ensures spent { tables_of t.new ≡ spend t.old.geo at.segment at.page (tables_of t.old) }
 {
-    let e = geo.e;
-    let n = geo.n;
-    let p = geo.p;
-    let f = e + g;
-    let v = e + n + g;
-    let h = e + n * 5;
-    let m = g * p + k;
-    let x = tab[f];
-    let y = tab[v];
-    used[m] = 1;
-    tab[f] = x - 1;
-    tab[v] = y + 1;
-    tab[h] = g as u32;
+    let g = at.segment;
+    t.used[g * t.geo.p + at.page] = 1;
+    t.free[g] -= 1;
+    t.valid[g] += 1;
+    *t.alloc = g as u32;
 }
 
 // Logical page l leaves the list of segment g, where it is mapped, and the map. Behind the list nothing changes.
-fn unlink(geo: Geometry, l: LogicalPage, g: usize, tab: &mut [u32])
-    requires { (u : List ℕ) × Held geo tab.old u × Mapped (view geo tab.old u) l.0 × (seg_of geo (word_of (view geo tab.old u) l.0) ≡ g) }
-    ensures { (u : List ℕ) → view geo tab.new u ≡ unlink geo l.0 g (view geo tab.old u) }
+fn unlink(t: &mut TablesMut<'_>, l: LogicalPage, g: usize)
+    requires sound { Sound t.old.geo (tables_of t.old) }
+    requires mapped { Mapped (tables_of t.old) l.0 × (seg_of t.old.geo (word_of (tables_of t.old) l.0) ≡ g) }
+    ensures same { Same t.old t.new }
+    ensures unlinked { tables_of t.new ≡ unlink t.old.geo l.0 g (tables_of t.old) }
 {
-    let e = geo.e;
-    let n = geo.n;
-    let p = geo.p;
-    let i = l.0;
-    let c = e + n * 2 + g;
-    let v = e + n + g;
-    let x = tab[c];
-    let y = tab[v];
-    tab[i] = 4294967295;
-    let a = e + n * 5 + 2 + g * p;
-    let z = a + x as usize;
-    remove(&mut tab[a..z], i as u32);
-    tab[c] = x - 1;
-    tab[v] = y - 1;
+    let start = g * t.geo.p;
+    let end = start + t.lens[g] as usize;
+    remove(&mut t.lists[start..end], l.0 as u32);
+    t.map[l.0] = PhysicalAddress::EMPTY.0;
+    t.lens[g] -= 1;
+    t.valid[g] -= 1;
 }
 
 // Segment g goes to the queue's front, and its flag is set. The queued ones move up by one place, into the first zero behind them.
-fn enqueue(geo: Geometry, g: usize, tab: &mut [u32])
-    requires good { Good geo }
-    requires tab_len { length tab.old ≡ tab_words geo }
-    requires g_lt_n { (g < geo.n) × (at tab.old (o_queued geo) ≤ geo.n) }
-    requires room { Room geo tab.old }
-    ensures { (u : List ℕ) → view geo tab.new u ≡ enqueue geo g (view geo tab.old u) }
+fn enqueue(t: &mut TablesMut<'_>, g: usize)
+    requires room { (g < t.old.geo.n) × Room t.old.geo (tables_of t.old) }
+    ensures same { Same t.old t.new }
+    ensures queued { tables_of t.new ≡ enqueue t.old.geo g (tables_of t.old) }
 {
-    let e = geo.e;
-    let n = geo.n;
-    let f = e + n * 4 + g;
-    let m = e + n * 5 + 1;
-    let x = tab[m];
-    let a = e + n * 3;
-    let k = x as usize + 1;
-    let z = a + k;
-    push_front(&mut tab[a..z], g as u32);
-    tab[f] = 1;
-    tab[m] = x + 1;
+    let k = *t.queued as usize;
+    push_front(&mut t.queue[..k + 1], g as u32);
+    t.flags[g] = 1;
+    *t.queued += 1;
 }
 
 // Logical page l is dropped from segment g, where it is mapped; a full segment that is not flagged goes to the queue.
-pub fn invalidate(geo: Geometry, l: LogicalPage, g: usize, tab: &mut [u32])
-    requires { (u : List ℕ) × Held geo tab.old u × Mapped (view geo tab.old u) l.0 × (seg_of geo (word_of (view geo tab.old u) l.0) ≡ g) }
-    ensures { (u : List ℕ) → view geo tab.new u ≡ invalidate geo l.0 g (view geo tab.old u) }
+pub fn invalidate(t: &mut TablesMut<'_>, l: LogicalPage, g: usize)
+    requires sound { Sound t.old.geo (tables_of t.old) }
+    requires mapped { Mapped (tables_of t.old) l.0 × (seg_of t.old.geo (word_of (tables_of t.old) l.0) ≡ g) }
+    ensures same { Same t.old t.new }
+    ensures invalidated { tables_of t.new ≡ invalidate t.old.geo l.0 g (tables_of t.old) }
 {
-    let e = geo.e;
-    let n = geo.n;
-    let f = e + g;
-    let h = e + n * 4 + g;
-    let x = tab[f];
-    let y = tab[h];
-    unlink(geo, l, g, tab);
-    if x == 0 {
-        if y == 0 {
-            enqueue(geo, g, tab);
-        }
+    unlink(t, l, g);
+    if t.free[g] == 0 && t.flags[g] == 0 {
+        enqueue(t, g);
     }
 }
 
 // Where l is mapped, its page is invalidated.
-pub fn forget(geo: Geometry, l: LogicalPage, tab: &mut [u32])
-    requires by_index { (u : List ℕ) × Held geo tab.old u }
-    requires l_lt_e { l.0 < geo.e }
-    ensures { (u : List ℕ) → view geo tab.new u ≡ forget geo l.0 (view geo tab.old u) }
+pub fn forget(t: &mut TablesMut<'_>, l: LogicalPage)
+    requires sound { Sound t.old.geo (tables_of t.old) }
+    requires l_lt_e { l.0 < t.old.geo.e }
+    ensures same { Same t.old t.new }
+    ensures forgotten { tables_of t.new ≡ forget t.old.geo l.0 (tables_of t.old) }
 {
-    let a = word_of(geo, l, tab);
-    if is_empty(a) {
+    let a = PhysicalAddress(t.map[l.0]);
+    if a.is_empty() {
         return;
     }
-    let g = segment_of(geo, a);
-    invalidate(geo, l, g, tab);
+    let g = t.geo.spot_of(a).segment;
+    invalidate(t, l, g);
 }
 
-// l goes to the end of segment g's list, and is mapped to page k of it.
-pub fn place(geo: Geometry, l: LogicalPage, g: usize, k: usize, tab: &mut [u32])
-    requires by_index { (u : List ℕ) × Held geo tab.old u × (at (view geo tab.old u).lens g < geo.p) }
-    requires l_lt_e { (l.0 < geo.e) × (g < geo.n) × (k < geo.p) }
-    ensures { (u : List ℕ) → view geo tab.new u ≡ place geo l.0 g k (view geo tab.old u) }
+// l goes to the end of the segment's list, and is mapped to the page.
+pub fn place(t: &mut TablesMut<'_>, l: LogicalPage, at: Spot)
+    requires in_bounds { (l.0 < t.old.geo.e) × (at.segment < t.old.geo.n) × (at.page < t.old.geo.p) × (at t.old.lens.now at.segment < t.old.geo.p) }
+    ensures same { Same t.old t.new }
+    ensures placed { tables_of t.new ≡ place t.old.geo l.0 at.segment at.page (tables_of t.old) }
 {
-    let e = geo.e;
-    let n = geo.n;
-    let p = geo.p;
-    let i = l.0;
-    let c = e + n * 2 + g;
-    let x = tab[c];
-    let a = address_of(geo, g, k);
-    let j = e + n * 5 + 2 + (g * p + wide(x));
-    tab[i] = a.0;
-    tab[j] = i as u32;
-    tab[c] = x + 1;
+    let g = at.segment;
+    let end = g * t.geo.p + t.lens[g] as usize;
+    t.map[l.0] = t.geo.address_of(at).0;
+    t.lists[end] = l.0 as u32;
+    t.lens[g] += 1;
 }
 
-// The old page of l is dropped where it is mapped, and l goes to page k of segment g.
-pub fn remap(geo: Geometry, l: LogicalPage, g: usize, k: usize, tab: &mut [u32])
-    requires by_index { (u : List ℕ) × Held geo tab.old u × (at (view geo tab.old u).lens g < at (view geo tab.old u).valid g) }
-    requires l_lt_e { (l.0 < geo.e) × (g < geo.n) × (k < geo.p) }
-    ensures { (u : List ℕ) → view geo tab.new u ≡ place geo l.0 g k (forget geo l.0 (view geo tab.old u)) }
+// The old page of l is dropped where it is mapped, and l goes to this page.
+pub fn remap(t: &mut TablesMut<'_>, l: LogicalPage, at: Spot)
+    requires sound { Sound t.old.geo (tables_of t.old) }
+    requires in_bounds { (l.0 < t.old.geo.e) × (at.segment < t.old.geo.n) × (at.page < t.old.geo.p) }
+    requires room { at t.old.lens.now at.segment < at t.old.valid.now at.segment }
+    ensures same { Same t.old t.new }
+    ensures remapped { tables_of t.new ≡ place t.old.geo l.0 at.segment at.page (forget t.old.geo l.0 (tables_of t.old)) }
 {
-    forget(geo, l, tab);
-    place(geo, l, g, k, tab);
+    forget(t, l);
+    place(t, l, at);
 }

@@ -10,9 +10,9 @@ use lib.ListN.{length}
 use lib.Seq.{get_or-set_same}
 use Rattle.model.specs.declared.Geometry.{Geometry}
 use Rattle.model.specs.Lists.{slot, splice, zeros}
-use Rattle.model.specs.declared.Answer.TheVariants.{Moved, Refused}
+use Rattle.model.specs.Numbers.{Ok, Err}
 use Rattle.model.specs.declared.Cause.TheVariants.{NoRoom, Device}
-use Rattle.model.specs.declared.Found.TheVariants.{At, Nothing}
+use Rattle.model.specs.PageMap.{Some, spot, None}
 use Rattle.model.specs.Numbers.{empty, seg_of, page_of}
 use Rattle.model.specs.Tables.{Tables, at, word_of, view}
 use Rattle.model.specs.Device.{Flash, State, state, may_program, programmed}
@@ -27,14 +27,14 @@ use Rattle.model.proofs.Held.{counted}
 use Rattle.device.specs.Tried.{Tried}
 
 -- the page found is the next of a segment with room
-pub next_of : {G : Geometry} {w u : List ℕ} (H : Held G w u) (bad : List ℕ) (g k : ℕ) → find G bad (view G w u) ≡ At g k → Next G (view G w u) g k
+pub next_of : {G : Geometry} {w u : List ℕ} (H : Held G w u) (bad : List ℕ) (g k : ℕ) → find G bad (view G w u) ≡ Some (spot g k) → Next G (view G w u) g k
 next_of {G} {w} {u} H bad g k e = go (found G H.good (view G w u) (counted H) bad)
   where
     go : Full G H.good (view G w u) (counted H) bad (find G bad (view G w u)) ⊎ Free G H.good (view G w u) (counted H) bad (find G bad (view G w u))
         → Next G (view G w u) g k
-    go (inl n) = absurd (let q : Nothing ≡ At g k = sym n.is ∙ e in let z : ◌≡◌ {A = ℕ} 0 1 = cc in omega arith)
+    go (inl n) = absurd (let q : None ≡ Some (spot g k) = sym n.is ∙ e in let z : ◌≡◌ {A = ℕ} 0 1 = cc in omega arith)
     go (inr f) =
-        let q : At f.seg _ ≡ At g k = sym f.is ∙ e in
+        let q : Some (spot f.seg _) ≡ Some (spot g k) = sym f.is ∙ e in
         let eg : f.seg ≡ g = cc in
         subst (λ (x : ℕ). Next G (view G w u) x k) eg (subst (λ (x : ℕ). Next G (view G w u) f.seg x) (cc) f.next)
 
@@ -54,21 +54,21 @@ module _ (G : Geometry) (st : State) (l a : ℕ) (word : a ≡ word_of st.tab l)
 
 -- the three ends
 module _ (G : Geometry) (bad : List ℕ) (l off : ℕ) (d : List ℕ) (st : State) where
-  pub wrote_none : find G bad st.tab ≡ Nothing → Done (write_page G bad l off d st) (Refused NoRoom) st
+  pub wrote_none : find G bad st.tab ≡ None → Done (write_page G bad l off d st) (Err NoRoom) st
   wrote_none e = rw (write_none G bad l off d st e) (record { answer = refl; left = refl })
 
-  module _ (g k : ℕ) (page : List ℕ) (hit : find G bad st.tab ≡ At g k) (built : page ≡ splice off d (old_page G st l))
+  module _ (g k : ℕ) (page : List ℕ) (hit : find G bad st.tab ≡ Some (spot g k)) (built : page ≡ splice off d (old_page G st l))
       (b : Bool) (f : Flash) (tried : Tried (may_program G g k st.flash) (programmed G g k page st.flash) st.flash b f) where
     after_is : {x : Bool} → b ≡ x → f ≡ cond x (programmed G g k page st.flash) st.flash
     after_is {x} e = tried.left ∙ ap (λ (y : Bool). cond y (programmed G g k page st.flash) st.flash) (sym tried.ok ∙ e)
 
-    pub wrote_spent : b ≡ false → {t : Tables} → t ≡ spend G g k st.tab → Done (write_page G bad l off d st) (Refused Device) (state t f)
+    pub wrote_spent : b ≡ false → {t : Tables} → t ≡ spend G g k st.tab → Done (write_page G bad l off d st) (Err Device) (state t f)
     wrote_spent e {t} s =
-        subst (λ o. Done o (Refused Device) (state t f)) (sym (write-spent G bad l off d st g k hit (sym tried.ok ∙ e)))
+        subst (λ o. Done o (Err Device) (state t f)) (sym (write-spent G bad l off d st g k hit (sym tried.ok ∙ e)))
         (record { answer = refl; left = rw (s, after_is e) })
 
     pub wrote_stored : b ≡ true → {t : Tables} → t ≡ place G l g k (forget G l (spend G g k st.tab))
-        → Done (write_page G bad l off d st) (Moved (length d)) (state t f)
+        → Done (write_page G bad l off d st) (Ok (length d)) (state t f)
     wrote_stored e {t} s =
-        subst (λ o. Done o (Moved (length d)) (state t f)) (sym (write-stored G bad l off d st g k hit (sym tried.ok ∙ e)))
+        subst (λ o. Done o (Ok (length d)) (state t f)) (sym (write-stored G bad l off d st g k hit (sym tried.ok ∙ e)))
         (record { answer = refl; left = rw (s, after_is e, built) })

@@ -1,82 +1,53 @@
 // The queue behind a restore (02, M-109): the segments with free count 0 and a list shorter than p, ascending, or none.
 #![tactic(auto)]
 
-ghost use Rattle.std.specs.Prelude.{◌≡◌, cond, List, ℕ, ◌<◌, ◌≤◌, length};
-ghost use Rattle.model.specs.Numbers.{Good};
-ghost use Rattle.model.specs.Tables.{at, view, tab_words, o_queued};
+ghost use Rattle.std.specs.Prelude.{◌≡◌, cond, ◌<◌, ◌≤◌};
 ghost use Rattle.model.specs.Checkpoint.{dead?, queue_last, queue_dead, requeued};
+ghost use Rattle.tables.specs.Parts.{tables_of, Same};
 
-use model::{Geometry, Queueing};
+use model::Queueing;
+use tables::TablesMut;
 
 // Whether segment g has free count 0 and a list shorter than p.
-fn is_dead(geo: Geometry, g: usize, tab: &[u32]) -> bool
-    requires good { Good geo }
-    requires tab_len { (length tab.now ≡ tab_words geo) × (g < geo.n) }
-    ensures { (u : List ℕ) → result ≡ dead? geo g (view geo tab.now u) }
+fn is_dead(t: &TablesMut<'_>, g: usize) -> bool
+    requires { g < t.now.geo.n }
+    ensures { result ≡ dead? t.now.geo g (tables_of t.now) }
 {
-    let e = geo.e;
-    let n = geo.n;
-    let f = e + g;
-    let m = e + n * 2 + g;
-    let p = geo.p as u32;
-    if 0 < tab[f] {
-        return false;
-    }
-    tab[m] < p
+    t.free[g] == 0 && (t.lens[g] as usize) < t.geo.p
 }
 
 // Segment g goes behind those that are queued, and its flag is set.
-fn queue_last(geo: Geometry, g: usize, tab: &mut [u32])
-    requires good { Good geo }
-    requires tab_len { (length tab.old ≡ tab_words geo) × (g < geo.n) × (at tab.old (o_queued geo) < geo.n) }
-    ensures { (u : List ℕ) → view geo tab.new u ≡ queue_last geo g (view geo tab.old u) }
+fn queue_last(t: &mut TablesMut<'_>, g: usize)
+    requires { (g < t.old.geo.n) × (t.old.queued.now < t.old.geo.n) }
+    ensures same { Same t.old t.new }
+    ensures queued { tables_of t.new ≡ queue_last t.old.geo g (tables_of t.old) }
 {
-    let e = geo.e;
-    let n = geo.n;
-    let m = e + n * 5 + 1;
-    let x = tab[m];
-    let q = e + n * 3 + x as usize;
-    let f = e + n * 4 + g;
-    tab[f] = 1;
-    tab[m] = x + 1;
-    tab[q] = g as u32;
+    t.queue[*t.queued as usize] = g as u32;
+    t.flags[g] = 1;
+    *t.queued += 1;
 }
 
-// The turn of segment g: of those before it, each is queued once at most.
-fn queue_if_dead(geo: Geometry, g: usize, tab: &mut [u32])
-    requires good { Good geo }
-    requires tab_len { (length tab.old ≡ tab_words geo) × (g < geo.n) × (at tab.old (o_queued geo) ≤ g) }
-    ensures { (u : List ℕ) → view geo tab.new u
-        ≡ cond (dead? geo g (view geo tab.old u)) (queue_last geo g (view geo tab.old u)) (view geo tab.old u) }
+// "ascending": segment by segment from 0 up. Of those before a segment, each is queued once at most.
+fn queue_all(t: &mut TablesMut<'_>)
+    requires { t.old.queued.now ≡ 0 }
+    ensures same { Same t.old t.new }
+    ensures queued { tables_of t.new ≡ queue_dead t.old.geo t.old.geo.n 0 (tables_of t.old) }
 {
-    if is_dead(geo, g, tab) {
-        queue_last(geo, g, tab);
-    }
-}
-
-// "ascending": segment by segment from 0 up.
-fn queue_all(geo: Geometry, tab: &mut [u32])
-    requires good { Good geo }
-    requires tab_len { (length tab.old ≡ tab_words geo) × (at tab.old (o_queued geo) ≡ 0) }
-    ensures { (u : List ℕ) → view geo tab.new u ≡ queue_dead geo geo.n 0 (view geo tab.old u) }
-{
-    let mut left = geo.n;
-    while 0 < left {
-        let n = geo.n;
-        let g = n - left;
-        queue_if_dead(geo, g, tab);
-        left -= 1;
+    for g in 0..t.geo.n {
+        if is_dead(t, g) {
+            queue_last(t, g);
+        }
     }
 }
 
 // The queue by the choice, where it is empty.
-pub fn requeue(geo: Geometry, queueing: Queueing, tab: &mut [u32])
-    requires good { Good geo }
-    requires tab_len { (length tab.old ≡ tab_words geo) × (at tab.old (o_queued geo) ≡ 0) }
-    ensures { (u : List ℕ) → view geo tab.new u ≡ requeued geo queueing (view geo tab.old u) }
+pub fn requeue(t: &mut TablesMut<'_>, queueing: Queueing)
+    requires { t.old.queued.now ≡ 0 }
+    ensures same { Same t.old t.new }
+    ensures requeued { tables_of t.new ≡ requeued t.old.geo queueing (tables_of t.old) }
 {
     match queueing {
         Queueing::Empty => {}
-        Queueing::Dead => queue_all(geo, tab),
+        Queueing::Dead => queue_all(t),
     }
 }

@@ -1,6 +1,6 @@
 -- `collect` meets its contract: nothing queued, a copy refused, the erase refused, or the victim reset.
 use Rattle.std.proofs.Common.{◌≢◌, ℕ, ◌<◌, refl, sym, ap, ◌∙◌, subst, arith, rules}
-use Rattle.model.specs.declared.Answer.TheVariants.{Moved}
+use Rattle.model.specs.Numbers.{Ok}
 use Rattle.model.specs.Tables.{view}
 use Rattle.model.specs.Device.{state, flash, may_erase, erased}
 use Rattle.model.specs.PageGc.{reset, unflag}
@@ -63,7 +63,7 @@ returns-then-not-ok-clause-done c =
     let f₀ = flash a.bytes.now a.marks.now a.counts.now a.fuse.now in
     let some : t₀.queued ≢ 0 = λ q. c.if-queue_length-eq0.false (c.queue_length.ensures a.used.now ∙ q) in
     let s = state (view a.geo d.tab d.used) (flash d.bytes d.marks a.counts.now d.fuse) in
-    let D = drained_is a.geo a.bad.now t₀ _ f₀ t.result (Moved c.in-Moved.k) s (t.ensures.first a.used.now) (t.ensures.rest a.used.now) (c.in-Moved.ensures.done a.counts.now) in
+    let D = drained_is a.geo a.bad.now t₀ _ f₀ t.result (Ok c.in-Moved.k) s (t.ensures.first a.used.now) (t.ensures.rest a.used.now) (c.in-Moved.ensures.done a.counts.now) in
     let e = c.erase-ok.new in
     let f = flash e.bytes e.marks e.counts e.fuse in
     let tried =
@@ -79,7 +79,7 @@ returns c =
     let f₀ = flash a.bytes.now a.marks.now a.counts.now a.fuse.now in
     let some : t₀.queued ≢ 0 = λ q. c.if-queue_length-eq0.false (c.queue_length.ensures a.used.now ∙ q) in
     let s = state (view a.geo d.tab d.used) (flash d.bytes d.marks a.counts.now d.fuse) in
-    let D = drained_is a.geo a.bad.now t₀ _ f₀ t.result (Moved c.in-Moved.k) s (t.ensures.first a.used.now) (t.ensures.rest a.used.now) (c.in-Moved.ensures.done a.counts.now) in
+    let D = drained_is a.geo a.bad.now t₀ _ f₀ t.result (Ok c.in-Moved.k) s (t.ensures.first a.used.now) (t.ensures.rest a.used.now) (c.in-Moved.ensures.done a.counts.now) in
     let e = c.erase-ok.new in
     let f = flash e.bytes e.marks e.counts e.fuse in
     let tried =

@@ -1,6 +1,6 @@
 -- `collect_threshold` meets its contract: nothing above the threshold, else the list.
 use Rattle.std.proofs.Common.{refl, sym, subst, arith}
-use Rattle.model.specs.declared.Answer.TheVariants.{Moved}
+use Rattle.model.specs.Numbers.{Ok}
 use Rattle.model.specs.Tables.{view}
 use Rattle.model.specs.Device.{state, flash}
 use Rattle.model.specs.Contract.{Done}
@@ -11,7 +11,7 @@ pub returns-then-threshold-total_free-clause-done : goal.returns-then-threshold-
 returns-then-threshold-total_free-clause-done c =
     let a = c.args in
     let s = state (view a.geo a.tab.now a.used.now) (flash a.bytes.now a.marks.now a.counts.now a.fuse.now) in
-    subst (λ o. Done o (Moved 0) s)
+    subst (λ o. Done o (Ok 0) s)
     (sym (threshold_above a.geo a.bad.now a.threshold a.m s (omega (arith, c.if-threshold-total_free.true, c.total_free.ensures a.used.now))))
     (record { answer = refl; left = refl })
 

@@ -2,7 +2,7 @@
 use Rattle.std.proofs.Common.{ℕ, List, ◌≡◌, ◌<◌, length, refl, sym, ap, ◌∙◌, arith}
 use Rattle.std.proofs.Math.ListN.{length-replicate}
 use Rattle.model.specs.declared.Geometry.{Geometry}
-use Rattle.model.specs.declared.Found.TheVariants.{At}
+use Rattle.model.specs.PageMap.{Some, spot}
 use Rattle.model.specs.Tables.{Tables, view}
 use Rattle.model.specs.Device.{state, flash}
 use Rattle.model.specs.Contract.{Held}
@@ -13,7 +13,7 @@ use Rattle.page_write.proofs.Laws.{next_of, spent_gap, wrote_none, wrote_spent, 
 use Rattle.page_write.proofs.write_page.Goals as goal
 
 -- the page found lies in the flash
-within : {G : Geometry} {w u : List ℕ} (H : Held G w u) (bad : List ℕ) (g k : ℕ) → find G bad (view G w u) ≡ At g k → (g < G.n) × (k < G.p)
+within : {G : Geometry} {w u : List ℕ} (H : Held G w u) (bad : List ℕ) (g k : ℕ) → find G bad (view G w u) ≡ Some (spot g k) → (g < G.n) × (k < G.p)
 within H bad g k e = let next = next_of H bad g k e in (next.seg, omega (arith, next.first, next.some_free))
 
 pub returns-in_default-clause-done : goal.returns-in_default-clause-done

@@ -1,0 +1,22 @@
+-- The tables that are lent part by part, as tables.
+use Rattle.std.specs.Prelude.{◌≡◌}
+use Rattle.model.specs.Tables.{Tables, tables}
+use Rattle.tables.specs.declared.TablesMut.{TablesMut}
+
+abbrev pub tables_of : TablesMut → Tables
+tables_of t =
+    tables t.map.now t.free.now t.valid.now t.used.now t.lists.now t.lens.now t.queue.now t.flags.now t.alloc.now t.queued.now
+
+-- the geometry and the places lent are the same: what a call leaves lies where it was lent
+pub record Same (a b : TablesMut) : Type 0 where
+  pub geo : b.geo ≡ a.geo
+  pub map : b.map.ghost_name ≡ a.map.ghost_name
+  pub free : b.free.ghost_name ≡ a.free.ghost_name
+  pub valid : b.valid.ghost_name ≡ a.valid.ghost_name
+  pub lens : b.lens.ghost_name ≡ a.lens.ghost_name
+  pub queue : b.queue.ghost_name ≡ a.queue.ghost_name
+  pub flags : b.flags.ghost_name ≡ a.flags.ghost_name
+  pub alloc : b.alloc.ghost_name ≡ a.alloc.ghost_name
+  pub queued : b.queued.ghost_name ≡ a.queued.ghost_name
+  pub lists : b.lists.ghost_name ≡ a.lists.ghost_name
+  pub used : b.used.ghost_name ≡ a.used.ghost_name
