@@ -15,22 +15,12 @@ fn put_decimal(x: usize, at: usize, out: &mut [u8]) -> usize
     ensures laid { out.new ≡ splice at (decimal x) out.old }
 {
     if x < 10 {
-        out[at] = 48 + x as u8;
+        out[at] = b'0' + x as u8;
         return at + 1;
     }
     let last = put_decimal(x / 10, at, out);
-    out[last] = 48 + (x % 10) as u8;
+    out[last] = b'0' + (x % 10) as u8;
     last + 1
-}
-
-// r without its sign. The smallest r negated is no i64, so one is added first and then to the count.
-fn magnitude(r: i64) -> usize
-    ensures { result ≡ nat_abs r }
-{
-    if r < 0 {
-        return (-(r + 1)) as usize + 1;
-    }
-    r as usize
 }
 
 // "the answer in decimal, or `!` and the refusal number"
@@ -39,9 +29,9 @@ fn put_text(r: i64, at: usize, out: &mut [u8]) -> usize
     ensures next { result ≡ at + length (answer_text r) }
     ensures laid { out.new ≡ splice at (answer_text r) out.old }
 {
-    let x = magnitude(r);
+    let x = r.unsigned_abs() as usize;
     if r < 0 {
-        out[at] = 33;
+        out[at] = b'!';
         return put_decimal(x, at + 1, out);
     }
     put_decimal(x, at, out)
@@ -54,9 +44,9 @@ pub fn put_answer(letter: u8, r: i64, out: &mut [u8]) -> usize
     ensures laid { out.new ≡ splice 0 (answer_line letter r) out.old }
 {
     out[0] = letter;
-    out[1] = 32;
+    out[1] = b' ';
     let k = put_text(r, 2, out);
-    out[k] = 10;
+    out[k] = b'\n';
     k + 1
 }
 
@@ -65,7 +55,7 @@ fn glyph(d: u8) -> u8
     requires { d < 16 }
     ensures { result ≡ glyph d }
 {
-    if d < 10 { 48 + d } else { 87 + d }
+    if d < 10 { b'0' + d } else { b'a' - 10 + d }
 }
 
 // Two digits for each byte, from `at` on.
@@ -73,13 +63,10 @@ fn put_hex(bytes: &[u8], at: usize, out: &mut [u8])
     requires { at + 2 * length bytes.now ≤ length out.old }
     ensures { out.new ≡ splice at (hex bytes.now) out.old }
 {
-    let mut i = 0;
-    while i < bytes.len() {
-        let b = bytes[i];
+    for (i, b) in bytes.iter().enumerate() {
         let j = at + 2 * i;
         out[j] = glyph(b / 16);
         out[j + 1] = glyph(b % 16);
-        i += 1;
     }
 }
 
@@ -89,11 +76,11 @@ pub fn put_read(bytes: &[u8], out: &mut [u8]) -> usize
     ensures length { result ≡ length (line 114 (hex bytes.now)) }
     ensures laid { out.new ≡ splice 0 (line 114 (hex bytes.now)) out.old }
 {
-    out[0] = 114;
-    out[1] = 32;
+    out[0] = b'r';
+    out[1] = b' ';
     put_hex(bytes, 2, out);
     let k = 2 + 2 * bytes.len();
-    out[k] = 10;
+    out[k] = b'\n';
     k + 1
 }
 
@@ -104,12 +91,12 @@ pub fn put_entry(geo: Geometry, a: PhysicalAddress, out: &mut [u8]) -> usize
     ensures length { result ≡ length (entry_text geo a.0) }
     ensures laid { out.new ≡ splice 0 (entry_text geo a.0) out.old }
 {
-    out[0] = 32;
+    out[0] = b' ';
     if page_map::is_empty(a) {
-        out[1] = 45;
+        out[1] = b'-';
         return 2;
     }
     let k = put_decimal(page_map::segment_of(geo, a), 1, out);
-    out[k] = 46;
+    out[k] = b'.';
     put_decimal(page_map::page_of(geo, a), k + 1, out)
 }
