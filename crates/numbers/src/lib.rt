@@ -4,7 +4,8 @@
 ghost use Rattle.std.specs.Prelude.{◌≡◌, ◌<◌, ◌≤◌};
 ghost use Rattle.numbers.specs.Groups.{longer, groups, number};
 
-// A group b with the high bit on, in front of the groups that make a number: of a shortest form that is below 2^64.
+// A group b with the high bit on, in front of the groups behind it. Those make no 0, since the form is the shortest, and less than 2^57, since
+// the number is below 2^64.
 #[tactic(auto, unfolding(crate::specs::Groups::longer))]
 fn longer(b: usize, higher: Option<(usize, usize)>) -> Option<(usize, usize)>
     requires b_bound { b < 256 }
