@@ -1,7 +1,7 @@
 -- What the loops over a slice go by: its next bytes are taken in after those before them (`next_byte`, `next_chunk`), a word or a pair of
 -- words at once (`after_word`, `after_pair`); and where the chunks of n bytes stand in the slice (`chunk_at`).
 use mathlib.Core.Path.{◌≡◌, refl, sym, ap, ap₂, ◌∙◌}
-use mathlib.Core.List.{List, [], ◌∷◌, ◌++◌}
+use mathlib.Core.List.{List, [], ◌∷◌}
 use Prim.Native.Nat.{ℕ, zero, suc, ◌+◌, ◌*◌, ◌/◌, ◌^◌, ◌-◌, ◌<◌, ◌≤◌, min}
 use native.Mathlib.Nat.{zero-mul}
 use native.Mathlib.Omega.{arith}
@@ -10,7 +10,7 @@ use lib.ListN.{length, take, drop, get_or}
 use lib.Seq.{take-add, drop-cons, take_all, drop-drop}
 use Rattle.std.specs.Int.{from_le_bytes, w64}
 use Rattle.std.specs.Simd.{first_chunks}
-use Rattle.std.proofs.Common.{drop_of_length-le, get_or-drop, length-drop, take-append-drop}
+use Rattle.std.proofs.Common.{drop_of_length-le, get_or-drop, length-drop}
 use Rattle.std.proofs.lemmas.List.{take_more, get_or-take, length-take}
 use Rattle.crc32.specs.Crc32.{after}
 use Rattle.crc32.specs.Register.{shifts}

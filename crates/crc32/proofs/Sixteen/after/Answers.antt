@@ -1,5 +1,5 @@
 -- `crc32::Sixteen::after` meets its contract: each pair of words goes in after those before it, and what is left after all of them.
-use Rattle.std.proofs.Common.{◌≡◌, ℕ, ◌+◌, ◌*◌, ◌/◌, ◌<◌, List, [], length, take, drop, get_or, sym, ap, ap₂, ◌∙◌, arith}
+use Rattle.std.proofs.Common.{◌≡◌, ℕ, ◌*◌, ◌/◌, ◌<◌, List, [], length, take, drop, get_or, sym, ap, ap₂, ◌∙◌, arith}
 use Rattle.std.specs.Int.{from_le_bytes, w64}
 use Rattle.std.specs.Int.Bits.{bit_xor}
 use Rattle.std.specs.Simd.{first_chunks}
@@ -20,14 +20,14 @@ loop-p-preserved c =
     let pairs : c.as_chunks.result.0.now ≡ first_chunks 16 (length s / 16) s = c.as_chunks.ensures.front in
     let p : List ℕ = get_or c.as_chunks.result.0.now i [] in
     let words : c.as_chunks-in-loop-p.result.0.now ≡ first_chunks 8 (length p / 8) p = c.as_chunks-in-loop-p.ensures.front in
-    let w : ℕ → List (List ℕ) → ℕ = λ m ws. from_le_bytes w64 (get_or ws m []) in
-    let h : i < length s / 16 = omega (arith, c.as_chunks.ensures.front_len) in
-    (omega arith,
-    c.shifted_pair-crc.ensures
-    ∙ ap₂ (λ (x y : ℕ). shifts 64 (bit_xor (shifts 64 x) y))
-    (ap₂ bit_xor (c.from.ensures ∙ c.loop-p.invariant.1) (c.from_le_bytes.ensures ∙ ap (w 0) words))
-    (c.from_le_bytes-in-loop-p.ensures ∙ ap (w 1) words)
-    ∙ next_pair s (λ j _. (c.type_inv.s j).fits) c.args.state i (omega arith) h p (ap (λ (ps : List (List ℕ)). get_or ps i []) pairs))
+    let h : i < length s / 16 = omega (arith, c.as_chunks.ensures.front_len) in (
+      omega arith,
+      c.pair-crc.ensures
+          ∙ ap₂ (λ (x : ℕ) (ws : List (List ℕ)). shifts 64 (bit_xor (shifts 64 (bit_xor x (from_le_bytes w64 (get_or ws 0 [])))) (from_le_bytes w64 (get_or ws 1 []))))
+          c.loop-p.invariant.1
+          words
+          ∙ next_pair s (λ j _. (c.type_inv.s j).fits) c.args.state i (omega arith) h p (ap (λ (ps : List (List ℕ)). get_or ps i []) pairs),
+    )
 
 pub returns : goal.returns
 returns c =
