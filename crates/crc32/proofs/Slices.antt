@@ -1,5 +1,5 @@
--- What the loops over a slice go by: its next bytes are taken in after those before them (`next_byte`, `next_chunk`), a word or a pair of
--- words at once (`after_word`, `after_pair`); and where the chunks of n bytes stand in the slice (`chunk_at`).
+-- What the loops over a slice go by: its next byte is taken in after all that stand before it (`next_byte`), and so are its next word and
+-- its next pair of words, each at once (`next_word`, `next_pair`).
 use mathlib.Core.Path.{◌≡◌, refl, sym, ap, ap₂, ◌∙◌}
 use mathlib.Core.List.{List, [], ◌∷◌}
 use Prim.Native.Nat.{ℕ, zero, suc, ◌+◌, ◌*◌, ◌/◌, ◌^◌, ◌-◌, ◌<◌, ◌≤◌, min}
@@ -44,7 +44,7 @@ after_bytes s byte (suc k) j r hr h =
     ∙ ap₂ (λ (n v : ℕ). shifts n (bit_xor r v)) count (xor_comm b (w * 256) ∙ xor_shifted w 8 b hb)
 
 -- a word
-pub after_word : (s : List ℕ) → Bytes s → (r : ℕ) → r < 2 ^ 32 → length s ≡ 8 → after r s ≡ shifts 64 (bit_xor r (from_le_bytes w64 s))
+after_word : (s : List ℕ) → Bytes s → (r : ℕ) → r < 2 ^ 32 → length s ≡ 8 → after r s ≡ shifts 64 (bit_xor r (from_le_bytes w64 s))
 after_word s byte r hr h =
     let word : bytes_at s 0 8 ≡ from_le_bytes w64 s = omega arith in
     after_bytes s byte 8 0 r hr (omega arith) ∙ ap (λ (x : ℕ). shifts 64 (bit_xor r x)) word

@@ -22,8 +22,8 @@ loop-p-preserved c =
     let words : c.as_chunks-in-loop-p.result.0.now ≡ first_chunks 8 (length p / 8) p = c.as_chunks-in-loop-p.ensures.front in
     let h : i < length s / 16 = omega (arith, c.as_chunks.ensures.front_len) in (
       omega arith,
-      c.pair-crc.ensures
-          ∙ ap₂ (λ (x : ℕ) (ws : List (List ℕ)). shifts 64 (bit_xor (shifts 64 (bit_xor x (from_le_bytes w64 (get_or ws 0 [])))) (from_le_bytes w64 (get_or ws 1 []))))
+      c.shifted_pair-crc.ensures
+          ∙ ap₂ (λ (x : ℕ) (ws : List (List ℕ)). let w : ℕ → ℕ = λ m. from_le_bytes w64 (get_or ws m []) in shifts 64 (bit_xor (shifts 64 (bit_xor x (w 0))) (w 1)))
           c.loop-p.invariant.1
           words
           ∙ next_pair s (λ j _. (c.type_inv.s j).fits) c.args.state i (omega arith) h p (ap (λ (ps : List (List ℕ)). get_or ps i []) pairs),

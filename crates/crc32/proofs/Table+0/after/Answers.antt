@@ -19,7 +19,7 @@ loop-w-preserved c =
     let words : c.as_chunks.result.0.now ≡ first_chunks 8 (length s / 8) s = c.as_chunks.ensures.front in
     let h : i < length s / 8 = omega (arith, c.as_chunks.ensures.front_len) in (
       omega arith,
-      c.word-crc.ensures
+      c.shifted_word-crc.ensures
           ∙ ap₂ (λ (x : ℕ) (ws : List (List ℕ)). shifts 64 (bit_xor x (from_le_bytes w64 (get_or ws i [])))) c.loop-w.invariant.1 words
           ∙ next_word s (λ j _. (c.type_inv.s j).fits) c.args.state i (omega arith) h,
     )
@@ -33,7 +33,7 @@ loop-b-preserved c =
     let h : k + i < length s = omega (arith, c.as_chunks.ensures.back_len) in
     let e : k + i + 1 ≡ k + (i + 1) = omega arith in (
       omega arith,
-      c.next-crc.ensures
+      c.shifted_byte-crc.ensures
           ∙ ap₂ (λ (x y : ℕ). shifts 8 (bit_xor x y)) c.loop-b.invariant.1 (ap (λ (l : List ℕ). get_or l i 0) rest ∙ get_or-drop k s i 0)
           ∙ next_byte s (λ j _. (c.type_inv.s j).fits) c.args.state (k + i) (omega arith) h
           ∙ ap (λ (m : ℕ). after c.args.state (take m s)) e,
