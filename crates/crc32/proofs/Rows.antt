@@ -1,4 +1,4 @@
--- The words of the tables, computed: the shift in a form that evaluates at numerals, and the lists that it makes (`tables`, `upper`).
+-- The words of the tables, computed: the shift in a form that evaluates at numerals, and the lists that it makes (`lower`, `upper`).
 -- The literals of the code are right exactly where they are these lists.
 use mathlib.Core.Path.{◌≡◌, refl, sym, ap, ap₂, ◌∙◌}
 use mathlib.Core.List.{List, [], ◌∷◌, ◌++◌, map}
@@ -11,7 +11,7 @@ use lib.Bits.{differ, bit_xor, xor_step, xor_shifted}
 use lib.Pow.{pow-lt}
 use lib.ListN.{length, get_or, length-map, length-append, get_or-append}
 use lib.Seq.{get_or-append-add}
-use Rattle.crc32.specs.Register.{poly, shift, shifts, Tables, Upper}
+use Rattle.crc32.specs.Register.{poly, shift, shifts, Tables}
 use Rattle.crc32.proofs.Shift.{shift_lt, shifts_xor, shifts-add, shifts_lt}
 
 -- the exclusive or of the n low digits
@@ -150,16 +150,16 @@ rows_at (suc m) (suc j) k n hj hk =
     ∙ rows_at m j k (n + 8) (omega arith) hk
     ∙ ap (λ (x : ℕ). shifts x k) c
 
--- eight tables from the f-th on
-from : (f j k : ℕ) → j < 8 → k < 256 → get_or (rows (base f) 8) (j * 256 + k) 0 ≡ shifts (8 * (j + f)) k
+-- the eight tables from the f-th on, that of one byte's shifts the first
+from : (f j k : ℕ) → j < 8 → k < 256 → get_or (rows (base (f + 1)) 8) (j * 256 + k) 0 ≡ shifts (8 * (f + j + 1)) k
 from f j k hj hk =
-    let c : 8 * f + 8 * j ≡ 8 * (j + f) = omega arith in
-    ap (λ (l : List ℕ). get_or (rows l 8) (j * 256 + k) 0) (base_is f)
-    ∙ rows_at 8 j k (8 * f) hj hk
+    let c : 8 * (f + 1) + 8 * j ≡ 8 * (f + j + 1) = omega arith in
+    ap (λ (l : List ℕ). get_or (rows l 8) (j * 256 + k) 0) (base_is (f + 1))
+    ∙ rows_at 8 j k (8 * (f + 1)) hj hk
     ∙ ap (λ (x : ℕ). shifts x k) c
 
-pub tables : Tables (rows (base 1) 8)
-tables = record { word = from 1 }
+pub lower : Tables 0 (rows (base 1) 8)
+lower = record { word = from 0 }
 
-pub upper : Upper (rows (base 9) 8)
-upper = record { word = from 9 }
+pub upper : Tables 8 (rows (base 9) 8)
+upper = record { word = from 8 }
