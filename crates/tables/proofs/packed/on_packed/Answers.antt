@@ -1,11 +1,11 @@
 -- The parts, and what is left of them put together.
-use Rattle.std.proofs.Common.{rules, ◌∙◌}
-use Rattle.model.specs.Tables.{tables, Sized}
+use Rattle.std.proofs.Common.{rules, sym, subst}
+use Rattle.model.specs.Tables.{Tables, tables, view, Sized}
 use Rattle.tables.proofs.Parts.{apart, laid_together}
-use Rattle.tables.proofs.packed.in_parts.Goals as goal
+use Rattle.tables.proofs.packed.on_packed.Goals as goal
 
-pub of_parts-requires-clause-callable : goal.of_parts-requires-clause-callable
-of_parts-requires-clause-callable g c =
+pub on_parts-requires-clause-may : goal.on_parts-requires-clause-may
+on_parts-requires-clause-may g c =
     let whole =
     apart c.args.geo c.args.tab.now c.args.used.now c.requires.tab_len.0
     c.split_at_mut-map.ensures.front c.split_at_mut-map.ensures.back
@@ -16,7 +16,7 @@ of_parts-requires-clause-callable g c =
     c.split_at_mut-flags.ensures.front c.split_at_mut-flags.ensures.back
     c.split_at_mut-alloc.ensures.front c.split_at_mut-alloc.ensures.back
     c.split_at_mut-queued.ensures.front c.split_at_mut-queued.ensures.back in
-    λ t y e h k. c.requires.callable t y e (h ∙ whole) k
+    subst (λ (t : Tables). g.D.Deed.may c.args.geo t c.args.deed.now) (sym whole) c.requires.may
 
 pub returns : goal.returns
 returns g c =
@@ -30,8 +30,7 @@ returns g c =
     c.split_at_mut-flags.ensures.front c.split_at_mut-flags.ensures.back
     c.split_at_mut-alloc.ensures.front c.split_at_mut-alloc.ensures.back
     c.split_at_mut-queued.ensures.front c.split_at_mut-queued.ensures.back in
-    let o = c.of_parts.ensures in
-    let n = c.of_parts.new in
+    let n = c.on_parts.new in
     let left = tables n.map n.free n.valid n.used n.lists n.lens n.queue n.flags n.alloc n.queued in
     let sizes : Sized c.args.geo left =
       record {
@@ -44,4 +43,6 @@ returns g c =
         queue = search rules;
         flags = search rules;
       } in
-    (_, _, _, _, o.4, o.5 ∙ whole, o.6, o.7, o.8, laid_together c.args.geo left _ _ sizes (search rules) (search rules) ∙ o.9)
+    subst (λ (t : Tables). g.D.Deed.does c.args.geo (view c.args.geo c.args.tab.now c.args.used.now) c.args.deed.now c.on_parts.result t n.deed)
+    (sym (laid_together c.args.geo left _ _ sizes (search rules) (search rules)))
+    (subst (λ (t : Tables). g.D.Deed.does c.args.geo t c.args.deed.now c.on_parts.result left n.deed) whole c.on_parts.ensures)
