@@ -1,63 +1,58 @@
 -- `settle` meets its contract: one turn of the definition's walk.
-use Rattle.std.proofs.Common.{◌≡◌, ◌+◌, ◌*◌, ◌<◌, ℕ, List, true, sym, arith}
-use Rattle.model.specs.declared.Geometry.{Geometry}
-use Rattle.model.specs.Numbers.{Good, empty, seg_of, page_of}
-use Rattle.model.specs.Tables.{at, pages, view}
-use Rattle.model.proofs.Slots.{below_part}
-use Rattle.model.proofs.View.{map_at, set-map}
+use Rattle.std.proofs.Common.{◌≡◌, ◌<◌, ℕ, List, true, sym, refl, ◌∙◌, arith}
+use Rattle.model.specs.declared.Spot.{Spot}
+use Rattle.model.specs.Numbers.{seg_of, page_of}
+use Rattle.model.specs.PageMap.{spot}
+use Rattle.model.specs.Tables.{at}
+use Rattle.tables.specs.declared.TablesMut.{TablesMut}
+use Rattle.tables.specs.Parts.{tables_of}
 use Rattle.checkpoint.specs.Turns.{takes, Turn}
-use Rattle.checkpoint.proofs.Turning.{Room, room, turn-taken, turn_passed}
+use Rattle.checkpoint.proofs.Turning.{Room, room, turn_taken, turn_passed}
 use Rattle.checkpoint.proofs.settle.Goals as goal
 
--- a page that is taken is one of the segment's, and both counts have room
-module _ (G : Geometry) (K : Good G) (l : ℕ) (w u s : List ℕ) (T : Turn G l (view G w u) s) (hl : l < G.e)
-    (yes : takes G (at w l) (view G w u) s ≡ true) {g k : ℕ} (eg : g ≡ seg_of G (at w l)) (ek : k ≡ page_of G (at w l)) where
-  has_room : Room G w g k
-  has_room = room G K l w u s T hl (at w l) (map_at G w u l 0 hl) yes eg ek
+module _ (t : TablesMut) (l : ℕ) (s : List ℕ) (r : (l < t.geo.e) × Turn t.geo l (tables_of t) s) where
+  -- the page of a word that is taken is one of the segment's, and both counts have room
+  has_room : takes t.geo (at t.map.now l) (tables_of t) s ≡ true → (x : Spot) → x ≡ spot (seg_of t.geo (at t.map.now l)) (page_of t.geo (at t.map.now l))
+      → Room t.geo (tables_of t) x
+  has_room = room t.geo t.good l (tables_of t) s r.1 r.0 (at t.map.now l) refl
 
-  spot_fits : g * G.p + k < pages G
-  spot_fits = below_part G.p has_room.seg has_room.page
+pub overflow_mul-taken : goal.overflow_mul-taken
+overflow_mul-taken c =
+    let R = has_room c.args.t.now c.args.l.0 c.args.taken.now c.requires (sym c.takes.ensures ∙ c.if-not-takes.false) _ c.spot_of-at.ensures in
+    omega (arith, R.place, R.few)
 
-pub bounds-taken-spot : goal.bounds-taken-spot
-bounds-taken-spot c =
-    let r = c.requires.tab_len in
-    let u = r.2.0 in
-    omega (
-      arith,
-      spot_fits c.args.geo c.requires.good c.args.l.0 c.args.tab.now u c.args.taken.now r.2.1 r.1 (sym (c.if-not-takes.ensures u))
-          c.segment_of-g.ensures
-          c.page_of-k.ensures,
-      r.2.1.marks_size,
-    )
+pub overflow_add-taken : goal.overflow_add-taken
+overflow_add-taken c =
+    let R = has_room c.args.t.now c.args.l.0 c.args.taken.now c.requires (sym c.takes.ensures ∙ c.if-not-takes.false) _ c.spot_of-at.ensures in
+    omega (arith, R.place, R.few)
 
-pub list_page-requires-clause-tab_len : goal.list_page-requires-clause-tab_len
-list_page-requires-clause-tab_len c =
-    let r = c.requires.tab_len in
-    let u = r.2.0 in
-    let R =
-    has_room c.args.geo c.requires.good c.args.l.0 c.args.tab.now u c.args.taken.now r.2.1 r.1 (sym (c.if-not-takes.ensures u))
-    c.segment_of-g.ensures
-    c.page_of-k.ensures in
-    (r.0, r.1, R.seg, R.valid, R.lens)
+pub bounds-taken-at : goal.bounds-taken-at
+bounds-taken-at c =
+    let R = has_room c.args.t.now c.args.l.0 c.args.taken.now c.requires (sym c.takes.ensures ∙ c.if-not-takes.false) _ c.spot_of-at.ensures in
+    omega (arith, R.place, c.requires.1.marks_size)
 
--- not taken
-pub returns-then-not-takes : goal.returns-then-not-takes
-returns-then-not-takes c u T =
-    let G = c.args.geo in
-    let w = c.args.tab.now in
-    let l = c.args.l.0 in
-    let hl = c.requires.tab_len.1 in
-    turn_passed G c.requires.good l (view G w u) c.args.taken.now T hl (at w l) (map_at G w u l 0 hl) (sym (c.if-not-takes.ensures u))
-    (set-map G w u l empty hl)
+pub list_page-requires-clause-in_bounds : goal.list_page-requires-clause-in_bounds
+list_page-requires-clause-in_bounds c =
+    let R = has_room c.args.t.now c.args.l.0 c.args.taken.now c.requires (sym c.takes.ensures ∙ c.if-not-takes.false) _ c.spot_of-at.ensures in
+    (c.requires.0, R.seg)
 
--- taken
-pub returns : goal.returns
-returns c u T =
-    let G = c.args.geo in
-    let w = c.args.tab.now in
-    let l = c.args.l.0 in
-    let hl = c.requires.tab_len.1 in
-    turn-taken G c.requires.good l (view G w u) c.args.taken.now T hl (at w l) (map_at G w u l 0 hl) (sym (c.if-not-takes.ensures u))
-    c.segment_of-g.ensures
-    c.page_of-k.ensures
-    (c.list_page.ensures u)
+pub list_page-requires-clause-room : goal.list_page-requires-clause-room
+list_page-requires-clause-room c =
+    let R = has_room c.args.t.now c.args.l.0 c.args.taken.now c.requires (sym c.takes.ensures ∙ c.if-not-takes.false) _ c.spot_of-at.ensures in
+    (R.valid, R.lens)
+
+pub returns-then-not-takes-clause-turn : goal.returns-then-not-takes-clause-turn
+returns-then-not-takes-clause-turn c =
+    (turn_passed c.args.t.now.geo c.args.t.now.good c.args.l.0 (tables_of c.args.t.now) c.args.taken.now c.requires.1 c.requires.0 _ refl (sym c.takes.ensures ∙ c.if-not-takes.true)).0
+
+pub returns-then-not-takes-clause-ending : goal.returns-then-not-takes-clause-ending
+returns-then-not-takes-clause-ending c =
+    (turn_passed c.args.t.now.geo c.args.t.now.good c.args.l.0 (tables_of c.args.t.now) c.args.taken.now c.requires.1 c.requires.0 _ refl (sym c.takes.ensures ∙ c.if-not-takes.true)).1
+
+pub returns-clause-turn : goal.returns-clause-turn
+returns-clause-turn c =
+    (turn_taken c.args.t.now.geo c.args.t.now.good c.args.l.0 (tables_of c.args.t.now) c.args.taken.now c.requires.1 c.requires.0 _ refl (sym c.takes.ensures ∙ c.if-not-takes.false) _ c.spot_of-at.ensures _ c.list_page.ensures.listed).0
+
+pub returns-clause-ending : goal.returns-clause-ending
+returns-clause-ending c =
+    (turn_taken c.args.t.now.geo c.args.t.now.good c.args.l.0 (tables_of c.args.t.now) c.args.taken.now c.requires.1 c.requires.0 _ refl (sym c.takes.ensures ∙ c.if-not-takes.false) _ c.spot_of-at.ensures _ c.list_page.ensures.listed).1
