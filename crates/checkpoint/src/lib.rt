@@ -274,6 +274,7 @@ pub fn restore(t: &mut TablesMut<'_>, file: &[u8], taken: &mut [u8])
     ensures clean { taken.new ≡ zeros (pages t.old.geo) }
 {
     read_in(t, file);
+    // Lent by itself: of a field lent within a call the proof would forget the words.
     let free = &mut *t.free;
     mark_used(t.geo.p, free, t.used);
     settle_all(t, taken);

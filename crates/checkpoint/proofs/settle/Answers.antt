@@ -1,20 +1,29 @@
 -- `settle` meets its contract: one turn of the definition's walk.
-use Rattle.std.proofs.Common.{◌≡◌, ◌<◌, ℕ, List, true, sym, refl, ◌∙◌, arith}
+use Rattle.std.proofs.Common.{◌≡◌, ◌*◌, ◌+◌, ◌<◌, ℕ, List, true, false, set, sym, refl, ◌∙◌, arith}
 use Rattle.model.specs.declared.Spot.{Spot}
-use Rattle.model.specs.Numbers.{seg_of, page_of}
+use Rattle.model.specs.Numbers.{empty, seg_of, page_of}
 use Rattle.model.specs.PageMap.{spot}
-use Rattle.model.specs.Tables.{at}
+use Rattle.model.specs.Tables.{Tables, at, set_map}
 use Rattle.tables.specs.declared.TablesMut.{TablesMut}
 use Rattle.tables.specs.Parts.{tables_of}
-use Rattle.checkpoint.specs.Turns.{takes, Turn}
-use Rattle.checkpoint.proofs.Turning.{Room, room, turn_taken, turn_passed}
+use Rattle.checkpoint.specs.Turns.{takes, listed, Turn}
+use Rattle.checkpoint.proofs.Turning.{Room, room, Onward, turn_taken, turn_passed}
 use Rattle.checkpoint.proofs.settle.Goals as goal
 
 module _ (t : TablesMut) (l : ℕ) (s : List ℕ) (r : (l < t.geo.e) × Turn t.geo l (tables_of t) s) where
-  -- the page of a word that is taken is one of the segment's, and both counts have room
-  has_room : takes t.geo (at t.map.now l) (tables_of t) s ≡ true → (x : Spot) → x ≡ spot (seg_of t.geo (at t.map.now l)) (page_of t.geo (at t.map.now l))
-      → Room t.geo (tables_of t) x
-  has_room = room t.geo t.good l (tables_of t) s r.1 r.0 (at t.map.now l) refl
+  -- the word of logical page l
+  abbrev word : ℕ
+  word = at t.map.now l
+
+  module _ (yes : takes t.geo word (tables_of t) s ≡ true) (x : Spot) (e : x ≡ spot (seg_of t.geo word) (page_of t.geo word)) where
+    has_room : Room t.geo (tables_of t) x
+    has_room = room t.geo t.good l (tables_of t) s r.1 r.0 word refl yes x e
+
+    taken : (t' : Tables) → t' ≡ listed t.geo l x.segment (tables_of t) → Onward t.geo l (tables_of t) t' (set s (x.segment * t.geo.p + x.page) 1)
+    taken = turn_taken t.geo t.good l (tables_of t) s r.1 r.0 word refl yes x e
+
+  passed : takes t.geo word (tables_of t) s ≡ false → Onward t.geo l (tables_of t) (set_map (set t.map.now l empty) (tables_of t)) s
+  passed = turn_passed t.geo t.good l (tables_of t) s r.1 r.0 word refl
 
 pub overflow_mul-taken : goal.overflow_mul-taken
 overflow_mul-taken c =
@@ -42,17 +51,13 @@ list_page-requires-clause-room c =
     (R.valid, R.lens)
 
 pub returns-then-not-takes-clause-turn : goal.returns-then-not-takes-clause-turn
-returns-then-not-takes-clause-turn c =
-    (turn_passed c.args.t.now.geo c.args.t.now.good c.args.l.0 (tables_of c.args.t.now) c.args.taken.now c.requires.1 c.requires.0 _ refl (sym c.takes.ensures ∙ c.if-not-takes.true)).0
+returns-then-not-takes-clause-turn c = (passed c.args.t.now c.args.l.0 c.args.taken.now c.requires (sym c.takes.ensures ∙ c.if-not-takes.true)).0
 
 pub returns-then-not-takes-clause-ending : goal.returns-then-not-takes-clause-ending
-returns-then-not-takes-clause-ending c =
-    (turn_passed c.args.t.now.geo c.args.t.now.good c.args.l.0 (tables_of c.args.t.now) c.args.taken.now c.requires.1 c.requires.0 _ refl (sym c.takes.ensures ∙ c.if-not-takes.true)).1
+returns-then-not-takes-clause-ending c = (passed c.args.t.now c.args.l.0 c.args.taken.now c.requires (sym c.takes.ensures ∙ c.if-not-takes.true)).1
 
 pub returns-clause-turn : goal.returns-clause-turn
-returns-clause-turn c =
-    (turn_taken c.args.t.now.geo c.args.t.now.good c.args.l.0 (tables_of c.args.t.now) c.args.taken.now c.requires.1 c.requires.0 _ refl (sym c.takes.ensures ∙ c.if-not-takes.false) _ c.spot_of-at.ensures _ c.list_page.ensures.listed).0
+returns-clause-turn c = (taken c.args.t.now c.args.l.0 c.args.taken.now c.requires (sym c.takes.ensures ∙ c.if-not-takes.false) _ c.spot_of-at.ensures _ c.list_page.ensures.listed).0
 
 pub returns-clause-ending : goal.returns-clause-ending
-returns-clause-ending c =
-    (turn_taken c.args.t.now.geo c.args.t.now.good c.args.l.0 (tables_of c.args.t.now) c.args.taken.now c.requires.1 c.requires.0 _ refl (sym c.takes.ensures ∙ c.if-not-takes.false) _ c.spot_of-at.ensures _ c.list_page.ensures.listed).1
+returns-clause-ending c = (taken c.args.t.now c.args.l.0 c.args.taken.now c.requires (sym c.takes.ensures ∙ c.if-not-takes.false) _ c.spot_of-at.ensures _ c.list_page.ensures.listed).1
