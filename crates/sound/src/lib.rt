@@ -12,7 +12,7 @@ ghost use Rattle.sound.specs.Steps.{unlike, Marks, Entries, Slots, Queue, Number
 
 use model::{Geometry, PhysicalAddress};
 
-// Whether every element of s is v. The loop has one way out, so that it is vectorised.
+// Whether every element of s is v. The loop has one way out, so that it is vectorised: `all` was tried, and misses a bar of speed.
 fn every<T: PartialEq + Copy>(s: &[T], v: T) -> bool
     ensures { result ≡ list_all (λ x. T.eq x v) s.now }
 {
@@ -96,21 +96,21 @@ impl Record {
     }
 }
 
-// The used pages of a segment: the u addresses from `first` up, which the map names.
+// The used pages of a segment: so many addresses from `first` up, which the map names.
 #[derive(Clone, Copy)]
 struct Home<'a> {
     map: &'a [u32],
     first: usize,
-    u: usize,
+    used: usize,
 }
 
 impl<'a> Home<'a> {
     // Whether the entries of a list are logical pages with addresses of this home, and no two the same.
-    // The marks of the pages that were met, which are among the first u, are left set.
+    // The marks of the pages that were met, which are among the first `used`, are left set.
     fn mark(&self, list: &[u32], seen: &mut [u8]) -> bool
-        requires { (seen.old ≡ zeros (length seen.old)) × (self.now.u ≤ length seen.old) }
-        ensures says { Says result (Entries list.now self.now.map.now self.now.first self.now.u) }
-        ensures seen_unchanged { drop self.now.u seen.new ≡ drop self.now.u seen.old }
+        requires { (seen.old ≡ zeros (length seen.old)) × (self.now.used ≤ length seen.old) }
+        ensures says { Says result (Entries list.now self.now.map.now self.now.first self.now.used) }
+        ensures seen_unchanged { drop self.now.used seen.new ≡ drop self.now.used seen.old }
     {
         // `get` and `checked_sub`: tried, and miss a bar of speed.
         for l in list {
@@ -123,7 +123,7 @@ impl<'a> Home<'a> {
                 return false;
             }
             let k = a - self.first;
-            if self.u <= k || seen[k] != 0 {
+            if self.used <= k || seen[k] != 0 {
                 return false;
             }
             seen[k] = 1;
@@ -133,20 +133,20 @@ impl<'a> Home<'a> {
 
     // The same, with the marks handed back all 0.
     fn listed(&self, list: &[u32], seen: &mut [u8]) -> bool
-        requires { (seen.old ≡ zeros (length seen.old)) × (self.now.u ≤ length seen.old) }
-        ensures says { Says result (Entries list.now self.now.map.now self.now.first self.now.u) }
+        requires { (seen.old ≡ zeros (length seen.old)) × (self.now.used ≤ length seen.old) }
+        ensures says { Says result (Entries list.now self.now.map.now self.now.first self.now.used) }
         ensures seen_unchanged { seen.new ≡ seen.old }
     {
         let ok = self.mark(list, seen);
-        seen[..self.u].fill(0);
+        seen[..self.used].fill(0);
         ok
     }
 
     // Whether the segment's list slots are right: the first `len` as `listed` says, the others 0.
     fn slots(&self, list: &[u32], len: usize, seen: &mut [u8]) -> bool
         requires len_in_bounds { len ≤ length list.now }
-        requires seen_value { (seen.old ≡ zeros (length seen.old)) × (self.now.u ≤ length seen.old) }
-        ensures says { Says result (Slots list.now len self.now.map.now self.now.first self.now.u) }
+        requires seen_value { (seen.old ≡ zeros (length seen.old)) × (self.now.used ≤ length seen.old) }
+        ensures says { Says result (Slots list.now len self.now.map.now self.now.first self.now.used) }
         ensures seen_unchanged { seen.new ≡ seen.old }
     {
         every(&list[len..], 0) && self.listed(&list[..len], seen)
@@ -212,7 +212,7 @@ impl<'a> Packed<'a> {
         &self.tab[..self.geo.e]
     }
 
-    // One of the five tables of a word for each segment, which lie behind the map.
+    // The five tables of a word for each segment lie behind the map: free counts, valid counts, lengths, queue, flags.
     fn column(&self, i: usize) -> &'a [u32]
         requires { i < 5 }
         ensures part { result.now ≡ region (self.now.geo.e + self.now.geo.n * i) self.now.geo.n self.now.tab.now }
@@ -301,9 +301,9 @@ impl<'a> Packed<'a> {
         let home = Home {
             map: self.map(),
             first: g * self.geo.span(),
-            u: p - record.free,
+            used: p - record.free,
         };
-        marks(part(self.used, p, g), home.u)
+        marks(part(self.used, p, g), home.used)
             && home.slots(part(self.lists(), p, g), record.len, seen)
     }
 

@@ -14,7 +14,7 @@ loop-l-preserved c =
     let before = c.loop-l.invariant in
     let key = page_key list h.map.now h.first in
     record {
-      kept = drop-set-lt h.u seen (key i) 1 (omega arith) ∙ before.kept;
-      each = below_more (Entry list h.map.now h.first h.u) i before.each (omega arith);
+      kept = drop-set-lt h.used seen (key i) 1 (omega arith) ∙ before.kept;
+      each = below_more (Entry list h.map.now h.first h.used) i before.each (omega arith);
       marked = marked_more key i seen before.marked (omega arith) c.if-seen-k-ne0.false;
     }

@@ -22,7 +22,7 @@ returns-then-every-clause-says c =
     let a = c.args in
     let s = a.list.now in
     says_iff c.listed.result
-    (both s a.len a.self.now.map.now a.self.now.first a.self.now.u c.requires.len_in_bounds
+    (both s a.len a.self.now.map.now a.self.now.first a.self.now.used c.requires.len_in_bounds
     (every_says 0 (region a.len (length s - a.len) s) _ c.if-every.ensures))
     (λ x. x.entries)
     c.listed.ensures.says
@@ -34,4 +34,4 @@ returns-else-every-clause-says c =
     says_not _ c.if-every.false
     (λ x.
     every_says 0 (region a.len (length s - a.len) s) _ c.if-every.ensures
-    (rest s a.len a.self.now.map.now a.self.now.first a.self.now.u c.requires.len_in_bounds x))
+    (rest s a.len a.self.now.map.now a.self.now.first a.self.now.used c.requires.len_in_bounds x))
