@@ -1,5 +1,5 @@
 -- Formatting segment by segment: the definition from the start ends as the definition from here. Assumes nothing.
-use mathlib.Core.Path.{◌≡◌, refl, sym, ap, ◌∙◌, subst}
+use mathlib.Core.Path.{◌≡◌, refl, sym, ap, ◌∙◌}
 use mathlib.Core.List.{[], ◌∷◌}
 use Prim.Native.Nat.{ℕ, zero, suc, ◌+◌, ◌-◌, ◌<◌, ◌≤◌}
 use native.Mathlib.Nat.{sub-zero}
@@ -9,8 +9,6 @@ use borrow.Author.Tests.{eq-eqb, ne_eqb}
 use Rattle.model.specs.declared.Geometry.{Geometry}
 use Rattle.model.specs.Tables.{Tables}
 use Rattle.model.specs.Device.{Flash, State, state, EraseSeg, blanked, finish, behind, format_from}
-use Rattle.model.specs.Contract.{Fit}
-use Rattle.model.proofs.Content.{blank_fit}
 
 -- the flash that formatting k segments from g up leaves
 abbrev pub formatted : Geometry → ℕ → ℕ → Tables → Flash → Flash
@@ -29,31 +27,27 @@ module _ (G : Geometry) (k g : ℕ) (st : State) where
 
 -- of the flash f₀ the segments below g have been formatted, which gave f
 pub record Formatting (G : Geometry) (f₀ f : Flash) (g : ℕ) : Type 0 where
-  pub g≤ : g ≤ G.n
-  pub fit : Fit G f
-  pub same : (t : Tables) → formatted G G.n 0 t f₀ ≡ formatted G (G.n - g) g t f
+  pub left : (t : Tables) → formatted G G.n 0 t f₀ ≡ formatted G (G.n - g) g t f
 
-pub starts : {G : Geometry} {f : Flash} → Fit G f → Formatting G f f 0
-starts {G} {f} F = record { g≤ = omega arith; fit = F; same = λ t. ap (λ k. formatted G k 0 t f) (sym (sub-zero G.n)) }
+pub starts : {G : Geometry} {f : Flash} → Formatting G f f 0
+starts {G} {f} = record { left = λ t. ap (λ k. formatted G k 0 t f) (sym (sub-zero G.n)) }
 
 module _ {G : Geometry} {f₀ f : Flash} {g : ℕ} (I : Formatting G f₀ f g) where
   pub goes_on : {f' : Flash} → g < G.n → 0 < f.fuse → f' ≡ blanked G g 0 f → Formatting G f₀ f' (g + 1)
-  goes_on h z e =
-      let left : G.n - g ≡ suc (G.n - (g + 1)) = omega arith in
-      subst (λ x. Formatting G f₀ x (g + 1)) (sym e)
+  goes_on {f'} h z e =
+      let rest : G.n - g ≡ suc (G.n - (g + 1)) = omega arith in
       record {
-        g≤ = omega arith;
-        fit = blank_fit G f I.fit g 0 h;
-        same = λ t.
-            I.same t
-            ∙ ap (λ k. formatted G k g t f) left
+        left = λ t.
+            I.left t
+            ∙ ap (λ k. formatted G k g t f) rest
             ∙ ap (λ o. o.st.flash) (one_more G (G.n - (g + 1)) g (state t f) z)
-            ∙ ap (λ i. formatted G (G.n - (g + 1)) i t (blanked G g 0 f)) (sym (add-one g));
+            ∙ ap (λ i. formatted G (G.n - (g + 1)) i t (blanked G g 0 f)) (sym (add-one g))
+            ∙ ap (formatted G (G.n - (g + 1)) (g + 1) t) (sym e);
       }
 
   pub stops : f.fuse ≡ 0 → (t : Tables) → f ≡ formatted G G.n 0 t f₀
   unfolding format_from
-  stops z t = sym (I.same t ∙ here (G.n - g))
+  stops z t = sym (I.left t ∙ here (G.n - g))
     where
       here : (k : ℕ) → formatted G k g t f ≡ f
       here zero = refl
@@ -61,4 +55,4 @@ module _ {G : Geometry} {f₀ f : Flash} {g : ℕ} (I : Formatting G f₀ f g) w
 
   pub ends : G.n ≤ g → (t : Tables) → f ≡ formatted G G.n 0 t f₀
   unfolding format_from
-  ends h t = let none : G.n - g ≡ 0 = omega arith in sym (I.same t ∙ ap (λ k. formatted G k g t f) none)
+  ends h t = let none : G.n - g ≡ 0 = omega arith in sym (I.left t ∙ ap (λ k. formatted G k g t f) none)

@@ -1,6 +1,6 @@
 -- How the device promises an operation that it may refuse.
 use Rattle.std.specs.Prelude.{◌≡◌, Bool, cond, Result, Ok, Err}
-use Rattle.model.specs.Numbers.{Cause}
+use Rattle.model.specs.declared.Cause.{Cause}
 use Rattle.model.specs.Device.{Flash}
 
 -- an operation that may be done or not answered r: done, it leaves `done`; "A refused operation changes nothing."

@@ -1,9 +1,10 @@
 // The flash: pages are programmed and read, segments erased and formatted. The fuse says how many operations are still done.
 #![tactic(auto)]
 
-ghost use Rattle.std.specs.Prelude.{◌≡◌, ◌*◌, length};
+ghost use Rattle.std.specs.Prelude.{◌≡◌, ◌<◌, ◌*◌, length};
 ghost use Rattle.model.specs.Numbers.{Good};
 ghost use Rattle.model.specs.Tables.{pages};
+ghost use Rattle.model.specs.Device.{burn};
 
 use model::{Cause, Geometry, Spot};
 
@@ -33,10 +34,10 @@ fn burn(fuse: &mut u64)
 }
 
 impl FlashMut<'_> {
-    ghost use Rattle.std.specs.Prelude.{◌<◌, List, ℕ, ◌+◌, set};
+    ghost use Rattle.std.specs.Prelude.{List, ℕ, ◌+◌, set};
     ghost use Rattle.model.specs.Lists.{slot};
     ghost use Rattle.model.specs.Tables.{Tables};
-    ghost use Rattle.model.specs.Device.{flash, burn, may_program, programmed, may_erase, erased, blanked, clear_up, state, format_from};
+    ghost use Rattle.model.specs.Device.{flash, may_program, programmed, may_erase, erased, blanked, clear_up, state, format_from};
     ghost use Rattle.model.specs.declared.Cause.TheVariants.{Device, Erase};
     ghost use Rattle.device.specs.Lent.{flash_of, Same};
     ghost use Rattle.device.specs.Tried.{Tried};

@@ -1,16 +1,44 @@
-// The public entries. Each tests all that it is lent, in document 01's order, and then does its deed. No entry asks anything of its caller.
+// The public entries. Each tests all that it is lent, in document 01's order, and then does its deed. No entry asks anything of its caller. They are lent
+// what the C names are lent, slice by slice; the deeds take tables and flash as they are once the tests have passed.
 #![tactic(auto)]
 
-ghost use Rattle.std.specs.Prelude.{◌≡◌, [], ◌∷◌, ◌+◌, ◌*◌, ◌<◌, ◌≤◌, leb, length, take, drop};
+ghost use Rattle.std.specs.Prelude.{◌≡◌, ℕ, [], ◌∷◌, ◌+◌, ◌*◌, ◌<◌, ◌≤◌, leb, length, take, drop};
+ghost use Rattle.guard.specs.Countable.{Countable};
 ghost use Rattle.model.specs.Lists.{every, slot, splice};
 ghost use Rattle.model.specs.Numbers.{Good, flat};
-ghost use Rattle.model.specs.Tables.{pages};
+ghost use Rattle.model.specs.Tables.{pages, view};
+ghost use Rattle.model.specs.Sound.{soundb};
 ghost use Rattle.model.specs.Device.{flash};
 ghost use Rattle.model.specs.Checkpoint.{file_size};
-ghost use Rattle.model.specs.Entry.{recorder, lent, no_flash, Promise, PromiseIn, tables_fit, clean, seen_scratch};
+ghost use Rattle.model.specs.Entry.{recorder, lent, no_flash, Answered, tables_fit, clean, all_fits, page_scratch, seen_scratch};
 ghost use Rattle.model.specs.Entry.{formatting, opening, read, write, collection, list_collection, threshold_collection, encoding, restoring};
+ghost use Rattle.ftl.specs.Tests.{tested};
 
-use model::{Answer, Cause, Geometry, LogicalPage, Numbers, PhysicalAddress, Queueing};
+use device::FlashMut;
+use model::{Answer, Cause, Geometry, LogicalPage, PhysicalAddress, Queueing};
+use tables::packed::in_parts;
+
+// What an inner write is lent beside the tables.
+#[derive(Drop)]
+struct Lent<'a> {
+    flash: FlashMut<'a>,
+    page: &'a mut [u8],
+}
+
+// What an inner collection is lent beside the tables.
+#[derive(Drop)]
+struct LentMore<'a> {
+    flash: FlashMut<'a>,
+    counts: &'a mut [u32],
+    page: &'a mut [u8],
+    order: &'a mut [u32],
+}
+
+// What restoring is lent beside the tables.
+#[derive(Drop)]
+struct Taken<'a> {
+    taken: &'a mut [u8],
+}
 
 // "Formatting erases every segment, whatever its count, sets counts to 0 and answers 0; it tests geometry and sizes only."
 pub fn format(
@@ -19,35 +47,43 @@ pub fn format(
     marks: &mut [u8],
     counts: &mut [u32],
     fuse: &mut u64,
-) -> i64
-    ensures { Promise
+) -> Answer
+    ensures answered { Answered
         (formatting geo (lent (recorder [] [] (flash bytes.old marks.old counts.old fuse.old)) [] []))
         (lent (recorder [] [] (flash bytes.new marks.new counts.new fuse.new)) [] []) result }
+    ensures countable { Countable result }
 {
     if !sound::good(geo) {
-        return -22;
+        return Err(Cause::Wrong);
     }
     if !guard::flash_fits(geo, bytes, marks, counts) {
-        return -22;
+        return Err(Cause::Wrong);
     }
-    device::format(geo, bytes, marks, counts, fuse);
-    0
+    let mut flash = FlashMut {
+        geo,
+        bytes,
+        marks,
+        fuse,
+    };
+    flash.format(counts);
+    Ok(0)
 }
 
 // "Opening answers 0, empties map, lists and queue, clears marks and flags, valid 0, free p; an allocation segment >= n becomes 0."
-pub fn open(geo: Geometry, tab: &mut [u32], used: &mut [u8]) -> i64
-    ensures { Promise
+pub fn open(geo: Geometry, tab: &mut [u32], used: &mut [u8]) -> Answer
+    ensures answered { Answered
         (opening geo (lent (recorder tab.old used.old no_flash) [] []))
         (lent (recorder tab.new used.new no_flash) [] []) result }
+    ensures countable { Countable result }
 {
     if !sound::good(geo) {
-        return -22;
+        return Err(Cause::Wrong);
     }
     if !guard::tables_fit(geo, tab, used) {
-        return -22;
+        return Err(Cause::Wrong);
     }
-    checkpoint::open(geo, tab, used);
-    0
+    in_parts(geo, tab, used, &mut (), |t, _| checkpoint::open(t));
+    Ok(0)
 }
 
 // The bytes of the page at address a from the offset on, laid into the buffer's front.
@@ -56,11 +92,9 @@ fn show(geo: Geometry, a: PhysicalAddress, off: usize, len: usize, bytes: &[u8],
     requires a_bound { (flat geo a.0 < pages geo) × (off + len ≤ geo.s) × (length bytes.now ≡ pages geo * geo.s) × (len ≤ length out.old) }
     ensures { out.new ≡ splice 0 (take len (drop off (slot geo.s (flat geo a.0) bytes.now))) out.old }
 {
-    let g = page_map::segment_of(geo, a);
-    let k = page_map::page_of(geo, a);
-    let b = (g * geo.p + k) * geo.s + off;
-    let z = b + len;
-    device::splice(out, 0, &bytes[b..z]);
+    let at = geo.spot_of(a);
+    let start = (at.segment * geo.p + at.page) * geo.s + off;
+    out[..len].copy_from_slice(&bytes[start..start + len]);
 }
 
 // "bytes at the offset of the mapped page"; bytes of the buffer beyond the length stay.
@@ -73,40 +107,40 @@ pub fn read(
     bytes: &[u8],
     out: &mut [u8],
     seen: &mut [u8],
-) -> i64
-    ensures { Promise
+) -> Answer
+    ensures answered { Answered
         (read geo sector length (lent (recorder tab.now used.now (flash bytes.now [] [] 0)) out.old (seen.old ∷ [])))
         (lent (recorder tab.now used.now (flash bytes.now [] [] 0)) out.new (seen.new ∷ [])) result }
+    ensures countable { Countable result }
 {
     if !sound::good(geo) {
-        return -22;
+        return Err(Cause::Wrong);
     }
     if !guard::read_fits(geo, length, tab, used, bytes, out, seen) {
-        return -22;
+        return Err(Cause::Wrong);
     }
     if !sound::sound(geo, tab, used, seen) {
-        return -117;
+        return Err(Cause::Unsound);
     }
     let l = sector / geo.s;
     if l >= geo.e {
-        return -22;
+        return Err(Cause::Wrong);
     }
     let off = sector % geo.s;
     if length > geo.s - off {
-        return -22;
+        return Err(Cause::Wrong);
     }
-    let a = page_map::word_of(geo, LogicalPage(l), tab);
-    if page_map::is_empty(a) {
-        return -61;
+    let a = PhysicalAddress(tab[l]);
+    if a.is_empty() {
+        return Err(Cause::Unmapped);
     }
     show(geo, a, off, length, bytes, out);
-    length as i64
+    Ok(length)
 }
 
 // Bytes at a sector, within one page.
 pub fn write(
     geo: Geometry,
-    numbers: Numbers,
     sector: usize,
     len: usize,
     xs: &[u8],
@@ -119,52 +153,92 @@ pub fn write(
     fuse: &mut u64,
     page: &mut [u8],
     seen: &mut [u8],
-) -> i64
-    ensures { PromiseIn numbers
+) -> Answer
+    ensures answered { Answered
         (write geo bad.now sector len xs.now
         (lent (recorder tab.old used.old (flash bytes.old marks.old counts.now fuse.old)) [] (page.old ∷ seen.old ∷ [])))
         (lent (recorder tab.new used.new (flash bytes.new marks.new counts.now fuse.new)) [] (page.new ∷ seen.new ∷ [])) result }
+    ensures countable { Countable result }
 {
     if !sound::good(geo) {
-        return -22;
+        return Err(Cause::Wrong);
     }
     if !guard::all_fit(geo, bad, tab, used, bytes, marks, counts, page, seen) {
-        return -22;
+        return Err(Cause::Wrong);
     }
     if xs.len() < len {
-        return -22;
+        return Err(Cause::Wrong);
     }
     if !sound::sound(geo, tab, used, seen) {
-        return -117;
+        return Err(Cause::Unsound);
     }
     let l = sector / geo.s;
     if l >= geo.e {
-        return -22;
+        return Err(Cause::Wrong);
     }
     let off = sector % geo.s;
     if len > geo.s - off {
-        return -22;
+        return Err(Cause::Wrong);
     }
-    let a = page_write::write_page(
-        geo,
-        LogicalPage(l),
-        off,
-        &xs[0..len],
-        bad,
+    let mut lent = Lent {
+        flash: FlashMut {
+            geo,
+            bytes,
+            marks,
+            fuse,
+        },
         page,
-        tab,
-        used,
-        bytes,
-        marks,
-        fuse,
-    );
-    guard::number(numbers, a)
+    };
+    in_parts(geo, tab, used, &mut lent, |t, u| {
+        page_write::write_page(
+            t,
+            &mut u.flash,
+            LogicalPage(l),
+            off,
+            &xs[..len],
+            bad,
+            u.page,
+        )
+    })
+}
+
+// What a collection tests: geometry, sizes and scratch, and soundness.
+fn collection_tests(
+    geo: Geometry,
+    bad: &[u8],
+    tab: &[u32],
+    used: &[u8],
+    bytes: &[u8],
+    marks: &[u8],
+    counts: &[u32],
+    page: &[u8],
+    seen: &mut [u8],
+    order: &[u32],
+) -> Result<(), Cause>
+    ensures tested { (fuse : ℕ) → result ≡ tested
+        (all_fits geo bad.now (page_scratch geo ∷ seen_scratch geo ∷ geo.n ∷ [])
+        (lent (recorder tab.now used.now (flash bytes.now marks.now counts.now fuse)) [] (page.now ∷ seen.old ∷ order.now ∷ [])))
+        (soundb geo (view geo tab.now used.now)) }
+    ensures seen_unchanged { seen.new ≡ seen.old }
+{
+    if !sound::good(geo) {
+        return Err(Cause::Wrong);
+    }
+    if !guard::all_fit(geo, bad, tab, used, bytes, marks, counts, page, seen) {
+        return Err(Cause::Wrong);
+    }
+    if !guard::clean_words(order, geo.n) {
+        return Err(Cause::Wrong);
+    }
+    if !sound::sound(geo, tab, used, seen) {
+        return Err(Cause::Unsound);
+    }
+    Ok(())
 }
 
 // One collection.
 pub fn collect(
     geo: Geometry,
-    numbers: Numbers,
     bad: &[u8],
     tab: &mut [u32],
     used: &mut [u8],
@@ -175,32 +249,33 @@ pub fn collect(
     page: &mut [u8],
     seen: &mut [u8],
     order: &mut [u32],
-) -> i64
-    ensures { PromiseIn numbers
+) -> Answer
+    ensures answered { Answered
         (collection geo bad.now
         (lent (recorder tab.old used.old (flash bytes.old marks.old counts.old fuse.old)) [] (page.old ∷ seen.old ∷ order.old ∷ [])))
         (lent (recorder tab.new used.new (flash bytes.new marks.new counts.new fuse.new)) [] (page.new ∷ seen.new ∷ order.new ∷ [])) result }
+    ensures countable { Countable result }
 {
-    if !sound::good(geo) {
-        return -22;
-    }
-    if !guard::all_fit(geo, bad, tab, used, bytes, marks, counts, page, seen) {
-        return -22;
-    }
-    if !guard::clean_words(order, geo.n) {
-        return -22;
-    }
-    if !sound::sound(geo, tab, used, seen) {
-        return -117;
-    }
-    let a = page_gc::collect(geo, bad, page, order, tab, used, bytes, marks, counts, fuse);
-    guard::number(numbers, a)
+    collection_tests(geo, bad, tab, used, bytes, marks, counts, page, seen, order)?;
+    let mut lent = LentMore {
+        flash: FlashMut {
+            geo,
+            bytes,
+            marks,
+            fuse,
+        },
+        counts,
+        page,
+        order,
+    };
+    in_parts(geo, tab, used, &mut lent, |t, u| {
+        page_gc::collect(t, &mut u.flash, u.counts, bad, u.page, u.order)
+    })
 }
 
 // Collections from the list, at most m of them counted.
 pub fn collect_list(
     geo: Geometry,
-    numbers: Numbers,
     m: usize,
     bad: &[u8],
     tab: &mut [u32],
@@ -212,34 +287,33 @@ pub fn collect_list(
     page: &mut [u8],
     seen: &mut [u8],
     order: &mut [u32],
-) -> i64
-    ensures { PromiseIn numbers
+) -> Answer
+    ensures answered { Answered
         (list_collection geo bad.now m
         (lent (recorder tab.old used.old (flash bytes.old marks.old counts.old fuse.old)) [] (page.old ∷ seen.old ∷ order.old ∷ [])))
         (lent (recorder tab.new used.new (flash bytes.new marks.new counts.new fuse.new)) [] (page.new ∷ seen.new ∷ order.new ∷ [])) result }
+    ensures countable { Countable result }
 {
-    if !sound::good(geo) {
-        return -22;
-    }
-    if !guard::all_fit(geo, bad, tab, used, bytes, marks, counts, page, seen) {
-        return -22;
-    }
-    if !guard::clean_words(order, geo.n) {
-        return -22;
-    }
-    if !sound::sound(geo, tab, used, seen) {
-        return -117;
-    }
-    let a = page_gc::collect_list(
-        geo, m, bad, page, order, tab, used, bytes, marks, counts, fuse,
-    );
-    guard::number(numbers, a)
+    collection_tests(geo, bad, tab, used, bytes, marks, counts, page, seen, order)?;
+    let mut lent = LentMore {
+        flash: FlashMut {
+            geo,
+            bytes,
+            marks,
+            fuse,
+        },
+        counts,
+        page,
+        order,
+    };
+    in_parts(geo, tab, used, &mut lent, |t, u| {
+        page_gc::collect_list(t, &mut u.flash, u.counts, m, bad, u.page, u.order)
+    })
 }
 
 // Collections from the list, unless more pages are free than the threshold.
 pub fn collect_threshold(
     geo: Geometry,
-    numbers: Numbers,
     threshold: u64,
     m: usize,
     bad: &[u8],
@@ -252,28 +326,37 @@ pub fn collect_threshold(
     page: &mut [u8],
     seen: &mut [u8],
     order: &mut [u32],
-) -> i64
-    ensures { PromiseIn numbers
+) -> Answer
+    ensures answered { Answered
         (threshold_collection geo bad.now threshold m
         (lent (recorder tab.old used.old (flash bytes.old marks.old counts.old fuse.old)) [] (page.old ∷ seen.old ∷ order.old ∷ [])))
         (lent (recorder tab.new used.new (flash bytes.new marks.new counts.new fuse.new)) [] (page.new ∷ seen.new ∷ order.new ∷ [])) result }
+    ensures countable { Countable result }
 {
-    if !sound::good(geo) {
-        return -22;
-    }
-    if !guard::all_fit(geo, bad, tab, used, bytes, marks, counts, page, seen) {
-        return -22;
-    }
-    if !guard::clean_words(order, geo.n) {
-        return -22;
-    }
-    if !sound::sound(geo, tab, used, seen) {
-        return -117;
-    }
-    let a = page_gc::collect_threshold(
-        geo, threshold, m, bad, page, order, tab, used, bytes, marks, counts, fuse,
-    );
-    guard::number(numbers, a)
+    collection_tests(geo, bad, tab, used, bytes, marks, counts, page, seen, order)?;
+    let mut lent = LentMore {
+        flash: FlashMut {
+            geo,
+            bytes,
+            marks,
+            fuse,
+        },
+        counts,
+        page,
+        order,
+    };
+    in_parts(geo, tab, used, &mut lent, |t, u| {
+        page_gc::collect_threshold(
+            t,
+            &mut u.flash,
+            u.counts,
+            threshold,
+            m,
+            bad,
+            u.page,
+            u.order,
+        )
+    })
 }
 
 // What encoding tests beside the geometry: the tables, the buffer, and scratch for the soundness test.
@@ -295,22 +378,23 @@ fn encode_fits(geo: Geometry, tab: &[u32], used: &[u8], buffer: &[u8], seen: &[u
 }
 
 // Encoding: the first 44 + 4e + 4n bytes of the buffer are the checkpoint's file.
-pub fn encode(geo: Geometry, tab: &[u32], used: &[u8], buffer: &mut [u8], seen: &mut [u8]) -> i64
-    ensures { Promise
+pub fn encode(geo: Geometry, tab: &[u32], used: &[u8], buffer: &mut [u8], seen: &mut [u8]) -> Answer
+    ensures answered { Answered
         (encoding geo (lent (recorder tab.now used.now no_flash) buffer.old (seen.old ∷ [])))
         (lent (recorder tab.now used.now no_flash) buffer.new (seen.new ∷ [])) result }
+    ensures countable { Countable result }
 {
     if !sound::good(geo) {
-        return -22;
+        return Err(Cause::Wrong);
     }
     if !encode_fits(geo, tab, used, buffer, seen) {
-        return -22;
+        return Err(Cause::Wrong);
     }
     if !sound::sound(geo, tab, used, seen) {
-        return -117;
+        return Err(Cause::Unsound);
     }
     checkpoint::encode(geo, tab, buffer);
-    checkpoint::file_size(geo) as i64
+    Ok(checkpoint::file_size(geo))
 }
 
 // Restoring: the nine reasons first, then the tables are those of the file, with the queue that was chosen.
@@ -321,22 +405,23 @@ pub fn restore(
     tab: &mut [u32],
     used: &mut [u8],
     taken: &mut [u8],
-) -> i64
-    ensures { Promise
+) -> Answer
+    ensures answered { Answered
         (restoring geo queueing file.now (lent (recorder tab.old used.old no_flash) [] (taken.old ∷ [])))
         (lent (recorder tab.new used.new no_flash) [] (taken.new ∷ [])) result }
+    ensures countable { Countable result }
 {
     if !sound::good(geo) {
-        return -22;
+        return Err(Cause::Wrong);
     }
     if !guard::restore_fits(geo, tab, used, taken) {
-        return -22;
+        return Err(Cause::Wrong);
     }
-    let why = checkpoint::reason(geo, file);
-    if why != 0 {
-        return guard::number(Numbers::Old, Answer::Refused(Cause::Reason(why)));
-    }
-    checkpoint::restore(geo, file, tab, used, taken);
-    requeue::requeue(geo, queueing, tab);
-    0
+    checkpoint::check(geo, file)?;
+    let mut marks = Taken { taken };
+    in_parts(geo, tab, used, &mut marks, |t, m| {
+        checkpoint::restore(t, file, m.taken);
+        requeue::requeue(t, queueing);
+    });
+    Ok(0)
 }

@@ -181,7 +181,7 @@ pub fn number(numbers: Numbers, a: Answer) -> i64
     ensures { result ≡ number numbers a }
 {
     match a {
-        Answer::Moved(m) => m as i64,
-        Answer::Refused(c) => negated(refusal(numbers, c)),
+        Ok(m) => m as i64,
+        Err(c) => negated(refusal(numbers, c)),
     }
 }

@@ -45,11 +45,14 @@ at_most (suc k) m n h = go (λ i j l. at_most k i j l) m h (ltb n 10) refl
     go less (suc m) h false t = rw (more k n (ltb-false n 10 t), length-append) (omega (arith, less m (n / 10) (shorter m n h)))
 
 -- the digits of a number of a word
-pub decimal_one : (n : ℕ) → n < 10 → decimal n ≡ (48 + n) ∷ []
-decimal_one n h = one 19 n h
+pub decimal_one : (n : ℕ) → n < 10 → decimal n ≡ (48 + n % 10) ∷ []
+decimal_one n h = let e : n ≡ n % 10 = omega arith in one 19 n h ∙ ap (λ k. (48 + k) ∷ []) e
 
 pub decimal_more : (n : ℕ) → 10 ≤ n → n < 18446744073709551616 → decimal n ≡ decimal (n / 10) ++ ((48 + n % 10) ∷ [])
 decimal_more n h l = more 19 n h ∙ ap (λ ds. ds ++ ((48 + n % 10) ∷ [])) (enough 18 (n / 10) (omega arith))
+
+pub decimal_length : (n : ℕ) → 10 ≤ n → n < 18446744073709551616 → length (decimal n) ≡ length (decimal (n / 10)) + 1
+decimal_length n h l = rw (decimal_more n h l, length-append) refl
 
 -- twenty digits, and ten of half a word
 pub twenty : (n : ℕ) → n < 18446744073709551616 → length (decimal n) ≤ 20

@@ -1,50 +1,74 @@
-// The lines of a trace, laid into a buffer that the caller lends. What is laid ends at the place that is answered.
+// The lines of a trace, laid into a buffer that the caller lends. The answer is how many bytes were laid.
 #![tactic(auto)]
 
-ghost use Rattle.std.specs.Prelude.{◌≡◌, ◌+◌, ◌*◌, ◌<◌, ◌≤◌, nat_abs, length};
+ghost use Rattle.std.specs.Prelude.{◌≡◌, ◌+◌, ◌*◌, ◌<◌, ◌≤◌, List, [], ◌∷◌, length};
 ghost use Rattle.model.specs.Lists.{splice};
 ghost use Rattle.model.specs.Numbers.{Good};
+ghost use Rattle.lines.specs.Laying.{Laid, Room};
 ghost use Rattle.lines.specs.Text.{decimal, answer_text, line, answer_line, glyph, hex, entry_text};
 
 use model::{Geometry, PhysicalAddress};
 
-// The digits of x from `at` on: those of x / 10, then the last.
-fn put_decimal(x: usize, at: usize, out: &mut [u8]) -> usize
-    requires { at + length (decimal x) ≤ length out.old }
-    ensures next { result ≡ at + length (decimal x) }
-    ensures laid { out.new ≡ splice at (decimal x) out.old }
-{
-    if x < 10 {
-        out[at] = 48 + x as u8;
-        return at + 1;
-    }
-    let last = put_decimal(x / 10, at, out);
-    out[last] = 48 + (x % 10) as u8;
-    last + 1
+// A line as far as it is laid: the buffer, and the place behind what is laid in.
+#[derive(Drop)]
+struct Line<'a> {
+    out: &'a mut [u8],
+    end: usize,
 }
 
-// r without its sign. The smallest r negated is no i64, so one is added first and then to the count.
-fn magnitude(r: i64) -> usize
-    ensures { result ≡ nat_abs r }
-{
-    if r < 0 {
-        return (-(r + 1)) as usize + 1;
+impl<'a> Line<'a> {
+    fn put(&mut self, byte: u8)
+        requires { Room self.old (byte ∷ []) }
+        ensures same_buffer { self.new.out.ghost_name ≡ self.old.out.ghost_name }
+        ensures laid { Laid self.old self.new (byte ∷ []) }
+    {
+        self.out[self.end] = byte;
+        self.end += 1;
     }
-    r as usize
+
+    // The digits of x: those of x / 10, then the last.
+    fn put_decimal(&mut self, x: usize)
+        requires { Room self.old (decimal x) }
+        ensures same_buffer { self.new.out.ghost_name ≡ self.old.out.ghost_name }
+        ensures laid { Laid self.old self.new (decimal x) }
+    {
+        if 10 <= x {
+            self.put_decimal(x / 10);
+        }
+        self.put(b'0' + (x % 10) as u8);
+    }
+
+    // "the answer in decimal, or `!` and the refusal number"
+    fn put_text(&mut self, r: i64)
+        requires { Room self.old (answer_text r) }
+        ensures same_buffer { self.new.out.ghost_name ≡ self.old.out.ghost_name }
+        ensures laid { Laid self.old self.new (answer_text r) }
+    {
+        if r < 0 {
+            self.put(b'!');
+        }
+        self.put_decimal(r.unsigned_abs() as usize);
+    }
+
+    // Two digits for each byte.
+    fn put_hex(&mut self, bytes: &[u8])
+        requires { Room self.old (hex bytes.now) }
+        ensures same_buffer { self.new.out.ghost_name ≡ self.old.out.ghost_name }
+        ensures laid { Laid self.old self.new (hex bytes.now) }
+    {
+        for b in bytes {
+            self.put(glyph(b / 16));
+            self.put(glyph(b % 16));
+        }
+    }
 }
 
-// "the answer in decimal, or `!` and the refusal number"
-fn put_text(r: i64, at: usize, out: &mut [u8]) -> usize
-    requires { at + length (answer_text r) ≤ length out.old }
-    ensures next { result ≡ at + length (answer_text r) }
-    ensures laid { out.new ≡ splice at (answer_text r) out.old }
+// One digit in lower hex.
+fn glyph(d: u8) -> u8
+    requires { d < 16 }
+    ensures { result ≡ glyph d }
 {
-    let x = magnitude(r);
-    if r < 0 {
-        out[at] = 33;
-        return put_decimal(x, at + 1, out);
-    }
-    put_decimal(x, at, out)
+    if d < 10 { b'0' + d } else { b'a' - 10 + d }
 }
 
 // The line of an answer.
@@ -53,34 +77,12 @@ pub fn put_answer(letter: u8, r: i64, out: &mut [u8]) -> usize
     ensures length { result ≡ length (answer_line letter r) }
     ensures laid { out.new ≡ splice 0 (answer_line letter r) out.old }
 {
-    out[0] = letter;
-    out[1] = 32;
-    let k = put_text(r, 2, out);
-    out[k] = 10;
-    k + 1
-}
-
-// One digit in lower hex.
-fn glyph(d: u8) -> u8
-    requires { d < 16 }
-    ensures { result ≡ glyph d }
-{
-    if d < 10 { 48 + d } else { 87 + d }
-}
-
-// Two digits for each byte, from `at` on.
-fn put_hex(bytes: &[u8], at: usize, out: &mut [u8])
-    requires { at + 2 * length bytes.now ≤ length out.old }
-    ensures { out.new ≡ splice at (hex bytes.now) out.old }
-{
-    let mut i = 0;
-    while i < bytes.len() {
-        let b = bytes[i];
-        let j = at + 2 * i;
-        out[j] = glyph(b / 16);
-        out[j + 1] = glyph(b % 16);
-        i += 1;
-    }
+    let mut line = Line { out, end: 0 };
+    line.put(letter);
+    line.put(b' ');
+    line.put_text(r);
+    line.put(b'\n');
+    line.end
 }
 
 // The line of a read: "its bytes in lower hex".
@@ -89,12 +91,12 @@ pub fn put_read(bytes: &[u8], out: &mut [u8]) -> usize
     ensures length { result ≡ length (line 114 (hex bytes.now)) }
     ensures laid { out.new ≡ splice 0 (line 114 (hex bytes.now)) out.old }
 {
-    out[0] = 114;
-    out[1] = 32;
-    put_hex(bytes, 2, out);
-    let k = 2 + 2 * bytes.len();
-    out[k] = 10;
-    k + 1
+    let mut line = Line { out, end: 0 };
+    line.put(b'r');
+    line.put(b' ');
+    line.put_hex(bytes);
+    line.put(b'\n');
+    line.end
 }
 
 // A space and one entry of the map: "segment.page or `-`".
@@ -104,12 +106,14 @@ pub fn put_entry(geo: Geometry, a: PhysicalAddress, out: &mut [u8]) -> usize
     ensures length { result ≡ length (entry_text geo a.0) }
     ensures laid { out.new ≡ splice 0 (entry_text geo a.0) out.old }
 {
-    out[0] = 32;
+    let mut line = Line { out, end: 0 };
+    line.put(b' ');
     if page_map::is_empty(a) {
-        out[1] = 45;
-        return 2;
+        line.put(b'-');
+        return line.end;
     }
-    let k = put_decimal(page_map::segment_of(geo, a), 1, out);
-    out[k] = 46;
-    put_decimal(page_map::page_of(geo, a), k + 1, out)
+    line.put_decimal(page_map::segment_of(geo, a));
+    line.put(b'.');
+    line.put_decimal(page_map::page_of(geo, a));
+    line.end
 }

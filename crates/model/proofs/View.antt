@@ -29,17 +29,17 @@ sized-view G w u h hu =
     }
 
 -- the regions in order, and the tables made of them
-sizes : Geometry → List ℕ
+unfoldable pub sizes : Geometry → List ℕ
 sizes G = G.e ∷ G.n ∷ G.n ∷ G.n ∷ G.n ∷ G.n ∷ 1 ∷ 1 ∷ pages G ∷ []
 
-made : List (List ℕ) → List ℕ → Tables
+unfoldable pub made : List (List ℕ) → List ℕ → Tables
 made rs u = tables (part 0) (part 1) (part 2) u (part 8) (part 3) (part 4) (part 5) (at (part 6) 0) (at (part 7) 0)
   where
     part : ℕ → List ℕ
     part j = get_or rs j []
 
 -- the view is made of the regions that the words are cut into
-view_cut : (G : Geometry) (w u : List ℕ) → view G w u ≡ made (cut (sizes G) w) u
+pub view_cut : (G : Geometry) (w u : List ℕ) → view G w u ≡ made (cut (sizes G) w) u
 unfolding view made sizes spot
 view_cut G w u =
     cc (

@@ -37,7 +37,12 @@ pub record Outcome : Type 0 where
 abbrev pub outcome : Lent → Answer → List Op → Outcome
 outcome x a os = record { left = x; answer = a; ops = os }
 
--- what an entry promises: it leaves what it was lent, and answers, as the outcome o says, in the numbers that were chosen
+-- what an entry promises: it leaves what it was lent, and answers, as the outcome o says
+pub record Answered (o : Outcome) (left : Lent) (a : Answer) : Type 0 where
+  pub left_is : left ≡ o.left
+  pub answer_is : a ≡ o.answer
+
+-- and what its C name promises: the same, the answer told in the numbers that were chosen
 pub record PromiseIn (N : Numbers) (o : Outcome) (left : Lent) (r : ℤ) : Type 0 where
   pub left_is : left ≡ o.left
   pub answer_is : r ≡ number N o.answer

@@ -9,9 +9,10 @@ use native.Mathlib.Nat.{pow-suc}
 use lib.ListN.{length, get_or, drop, length-drop}
 use lib.Seq.{drop-cons}
 use borrow.Author.Tests.{lt-ltb, le-ltb}
-use Rattle.numbers.specs.Groups.{Number, groups, number, coded}
+use Rattle.std.proofs.Common.{Some}
+use Rattle.numbers.specs.Groups.{groups, number, coded}
 use Rattle.numbers.proofs.Laws.{longer_fits, groups_none, groups_last, groups_more}
-use Rattle.numbers.proofs.Places.{less?, never, Last, More, by_group}
+use Rattle.numbers.proofs.Places.{less?, Last, More, by_group}
 
 coded_last : (k x : ℕ) → x < 128 → coded (suc k) x ≡ x ∷ []
 unfolding coded
@@ -27,8 +28,8 @@ first s at h = rw (add-one, drop-cons s at 0)
 
 -- what was read, in bytes
 module _ (s : List ℕ) (byte : (i : ℕ) → get_or s i 0 < 256) where
-  below : (k at x next : ℕ) → groups s k at ≡ Number x next → x < 18446744073709551616
-  below zero at x next e = absurd (never (groups_none s at) e)
+  below : (k at x next : ℕ) → groups s k at ≡ Some (x, next) → x < 18446744073709551616
+  below zero at x next e = let f = groups_none s at in cc
   below (suc k) at x next e =
       ⊎_elim
       (λ l. omega (arith, l.value, l.low))
@@ -49,8 +50,8 @@ module _ (s : List ℕ) (byte : (i : ℕ) → get_or s i 0 < 256) where
       let behind : x / 128 ≡ m.behind.higher = omega (arith, m.behind.value, m.high, byte at) in
       rw (coded_more k x high, low, behind, ← i) (first s at m.there)
 
-  groups-coded : (k at x next : ℕ) → groups s k at ≡ Number x next → drop at s ≡ coded k x ++ drop next s
-  groups-coded zero at x next e = absurd (never (groups_none s at) e)
+  groups-coded : (k at x next : ℕ) → groups s k at ≡ Some (x, next) → drop at s ≡ coded k x ++ drop next s
+  groups-coded zero at x next e = let f = groups_none s at in cc
   groups-coded (suc k) at x next e =
       ⊎_elim
       (λ l. last_coded k at x next l)
@@ -60,7 +61,7 @@ module _ (s : List ℕ) (byte : (i : ℕ) → get_or s i 0 < 256) where
   -- a number that was read is below 2^64, and its bytes are its shortest form
   pub number-coded
       : (at x next : ℕ)
-      → number s at ≡ Number x next
+      → number s at ≡ Some (x, next)
       → (x < 18446744073709551616) × (drop at s ≡ coded 10 x ++ drop next s)
   number-coded at x next e = (below 10 at x next e, groups-coded 10 at x next e)
 
@@ -83,7 +84,7 @@ module _ (s rest : List ℕ) where
       : (k at x : ℕ)
       → x < 128
       → drop at s ≡ coded (suc k) x ++ rest
-      → groups s (suc k) at ≡ Number x (at + length (coded (suc k) x))
+      → groups s (suc k) at ≡ Some (x, at + length (coded (suc k) x))
   last-read k at x l e =
       let c = coded_last k x l in
       let f : Begins s at x rest = begins s at x rest (rw c at e) in
@@ -95,8 +96,8 @@ module _ (s rest : List ℕ) where
       → 128 ≤ x
       → x < 18446744073709551616
       → drop at s ≡ coded (suc k) x ++ rest
-      → (drop (at + 1) s ≡ coded k (x / 128) ++ rest → groups s k (at + 1) ≡ Number (x / 128) (at + 1 + length (coded k (x / 128))))
-      → groups s (suc k) at ≡ Number x (at + length (coded (suc k) x))
+      → (drop (at + 1) s ≡ coded k (x / 128) ++ rest → groups s k (at + 1) ≡ Some (x / 128, at + 1 + length (coded k (x / 128))))
+      → groups s (suc k) at ≡ Some (x, at + length (coded (suc k) x))
   more-read k at x l b e i =
       let c = coded_more k x l in
       let behind = coded k (x / 128) in
@@ -120,7 +121,7 @@ module _ (s rest : List ℕ) where
       → x < 128 ^ suc k
       → x < 18446744073709551616
       → drop at s ≡ coded (suc k) x ++ rest
-      → groups s (suc k) at ≡ Number x (at + length (coded (suc k) x))
+      → groups s (suc k) at ≡ Some (x, at + length (coded (suc k) x))
   coded-groups zero at x h b e = last-read 0 at x (omega arith) e
   coded-groups (suc k) at x h b e =
       ⊎_elim
@@ -133,5 +134,5 @@ module _ (s rest : List ℕ) where
       : (at x : ℕ)
       → x < 18446744073709551616
       → drop at s ≡ coded 10 x ++ rest
-      → number s at ≡ Number x (at + length (coded 10 x))
+      → number s at ≡ Some (x, at + length (coded 10 x))
   coded-number at x b e = coded-groups 9 at x (omega arith) b e

@@ -4,58 +4,38 @@
 ghost use Rattle.std.specs.Prelude.{◌≡◌, ◌<◌, ◌≤◌};
 ghost use Rattle.numbers.specs.Groups.{longer, groups, number};
 
-// A number and the place after it, or no number.
-#[derive(Drop)]
-pub enum Reading {
-    Number(usize, usize),
-    Malformed,
-}
-
-fn wide(x: u8) -> usize
-    ensures { (result ≡ x) × (result < 256) }
-{
-    x as usize
-}
-
-// A group b with the high bit on, in front of the groups that make x.
-fn longer(b: usize, higher: Reading) -> Reading
+// A group b with the high bit on, in front of the groups behind it. Those make no 0, since the form is the shortest, and less than 2^57, since
+// the number is below 2^64.
+#[tactic(auto, unfolding(crate::specs::Groups::longer))]
+fn longer(b: usize, higher: Option<(usize, usize)>) -> Option<(usize, usize)>
     requires b_bound { b < 256 }
     requires le_b { 128 ≤ b }
     ensures { result ≡ longer b higher }
 {
-    match higher {
-        Reading::Malformed => Reading::Malformed,
-        Reading::Number(x, next) => {
-            if x == 0 {
-                return Reading::Malformed;
-            }
-            if 144115188075855872 <= x {
-                return Reading::Malformed;
-            }
-            Reading::Number(b - 128 + 128 * x, next)
-        }
+    let (x, next) = higher?;
+    if !(1..1 << 57).contains(&x) {
+        return None;
     }
+    Some((b - 128 + 128 * x, next))
 }
 
 // "A number is read group by group, at most ten groups."
-fn groups(s: &[u8], at: usize, allowed: usize) -> Reading
+#[tactic(auto, using(crate::proofs::Laws::groups_none, crate::proofs::Laws::groups_end, crate::proofs::Laws::groups_last, crate::proofs::Laws::groups_more))]
+fn groups(s: &[u8], at: usize, allowed: usize) -> Option<(usize, usize)>
     ensures { result ≡ groups s.now allowed at }
 {
     if allowed == 0 {
-        return Reading::Malformed;
+        return None;
     }
-    if s.len() <= at {
-        return Reading::Malformed;
-    }
-    let b = wide(s[at]);
+    let b = usize::from(*s.get(at)?);
     if b < 128 {
-        return Reading::Number(b, at + 1);
+        return Some((b, at + 1));
     }
     longer(b, groups(s, at + 1, allowed - 1))
 }
 
-// The number at a place.
-pub fn number(s: &[u8], at: usize) -> Reading
+// The number at a place and the place after it, or no number.
+pub fn number(s: &[u8], at: usize) -> Option<(usize, usize)>
     ensures { result ≡ number s.now at }
 {
     groups(s, at, 10)

@@ -1,79 +1,94 @@
--- Invalidating and forgetting, by the words that the code reads. Assumes nothing.
-use Prim.Native.Nat.{ℕ, ◌+◌, ◌-◌, ◌≤◌, ◌<◌}
+-- Unlinking, invalidating and forgetting, by the words that the code reads. Assumes nothing.
+use Prim.Native.Nat.{ℕ, ◌*◌, ◌-◌, ◌<◌}
 use native.Mathlib.Omega.{arith}
-use mathlib.Core.Path.{◌≡◌, sym, ap, ap₂, ◌∙◌, subst⁻¹}
+use mathlib.Core.Path.{◌≡◌, sym, ap, ◌∙◌}
 use mathlib.Core.Logic.{◌≢◌}
-use mathlib.Core.List.{List}
-use lib.ListN.{length, take, drop}
-use lib.Seq.{drop-drop}
+use lib.ListN.{drop}
+use lib.Seq.{take-take}
 use borrow.Author.Tests.{eq-eqb, ne_eqb}
 use Rattle.model.specs.declared.Geometry.{Geometry}
-use Rattle.model.specs.Lists.{zeros}
+use Rattle.model.specs.Lists.{occ, on_slot, without}
 use Rattle.model.specs.Numbers.{empty, seg_of}
-use Rattle.model.specs.Tables.{Tables, at, word_of, region, view, o_free, o_queue, o_flags, o_queued}
-use Rattle.model.specs.Sound.{Mapped}
-use Rattle.model.specs.Contract.{Held}
+use Rattle.model.specs.Tables.{Tables, at, word_of, region, list_of}
+use Rattle.model.specs.Sound.{Sound, Mapped}
 use Rattle.model.specs.PageMap.{unlink, enqueue, invalidate, forget}
-use Rattle.model.proofs.Slots.{drop-take}
+use Rattle.model.proofs.Working.{Counted}
+use Rattle.model.proofs.Slots.{any_default}
+use Rattle.model.proofs.Reading.{names_one, len≤, in_lists}
+use Rattle.model.proofs.Regions.{on_part}
+use Rattle.model.proofs.Official.{sound_counted}
 use Rattle.model.proofs.Unlink.{unlink_sound}
 use Rattle.model.proofs.Enqueue.{has_room}
 use Rattle.model.proofs.Forget.{forgot}
-use Rattle.model.proofs.View.{free_at, flags_at, queued_at}
-use Rattle.model.proofs.Held.{counted, held_by}
+use Rattle.tables.specs.declared.TablesMut.{TablesMut}
+use Rattle.tables.specs.Parts.{tables_of}
+use Rattle.tables.proofs.Parts.{sized}
 use Rattle.page_map.specs.Parts.{Room}
-use Rattle.page_map.proofs.Words.{linked}
+use Rattle.page_map.proofs.Parts.{without_alone, part_alone}
 
--- the three ways of invalidating: queued, flagged already, not full
-module _ (G : Geometry) (w : List ℕ) (l g : ℕ) (hg : g < G.n) (u : List ℕ) where
-  pub invalidate-due : at w (o_free G + g) ≡ 0 → at w (o_flags G + g) ≡ 0 → enqueue G g (unlink G l g (view G w u)) ≡ invalidate G l g (view G w u)
+-- sound tables in the working form
+pub counted : (t : TablesMut) → Sound t.geo (tables_of t) → Counted t.geo (tables_of t)
+counted t S = sound_counted t.geo (tables_of t) (sized t) S
+
+-- l is mapped into segment g
+module _ {G : Geometry} {t : Tables} (C : Counted G t) (l g : ℕ) (m : Mapped t l) (e : seg_of G (word_of t l) ≡ g) where
+  pub seg : g < G.n
+  seg = omega (arith, C.seg< l m)
+
+  -- the list that it leaves: its words, of which l is one once, and zeros behind
+  words : region (g * G.p) (at t.lens g) t.lists ≡ list_of G t g
+  words = sym (take-take (at t.lens g) G.p (drop (g * G.p) t.lists) (len≤ G t C g))
+
+  pub list_once : occ l (region (g * G.p) (at t.lens g) t.lists) ≡ 1
+  list_once = ap (occ l) words ∙ C.listed l g seg ∙ names_one G (word_of t l) g m e
+
+  pub list_part : on_part (g * G.p) (at t.lens g) (without l) t.lists ≡ on_slot G.p g (without l) t.lists
+  list_part =
+      part_alone (without l) (g * G.p) (at t.lens g) G.p t.lists (len≤ G t C g) (in_lists C.sized seg)
+      (without_alone l (at t.lens g) (G.p - at t.lens g) (region (g * G.p) G.p t.lists) (C.tails g seg)
+      (omega (arith, list_once, ap (occ l) words)))
+
+-- after it has left: free counts and flags are as they were, so the two tests give the three ways of invalidating
+module _ (G : Geometry) (t : Tables) (l g : ℕ) (t' : Tables) (is : t' ≡ unlink G l g t) where
+  free_same : at t'.free g ≡ at t.free g
+  free_same = ap (λ (x : Tables). at x.free g) is
+
+  flag_same : at t'.flags g ≡ at t.flags g
+  flag_same = ap (λ (x : Tables). at x.flags g) is
+
+  -- a segment that is due finds room in the queue: `has_room`
+  pub due_room : Counted G t → Mapped t l → seg_of G (word_of t l) ≡ g → at t'.free g ≡ 0 → at t'.flags g ≡ 0 → Room G t'
+  due_room C m e f h =
+      let U = unlink_sound G t C l g m e in
+      let room = has_room G (unlink G l g t) U g (seg C l g m e) (sym free_same ∙ f) (sym flag_same ∙ h) in
+      rw is record { some = room; blank = U.behind }
+
+  pub invalidate-due : at t'.free g ≡ 0 → at t'.flags g ≡ 0 → enqueue G g t' ≡ invalidate G l g t
   unfolding invalidate
-  invalidate-due f h = rw (eq-eqb _ _ (free_at G w u g 0 hg ∙ f), eq-eqb _ _ (flags_at G w u g 0 hg ∙ h))
+  invalidate-due f h = rw (is, eq-eqb _ _ (sym free_same ∙ f), eq-eqb _ _ (sym flag_same ∙ h))
 
-  pub invalidate_flagged : at w (o_free G + g) ≡ 0 → at w (o_flags G + g) ≢ 0 → unlink G l g (view G w u) ≡ invalidate G l g (view G w u)
+  pub invalidate_flagged : at t'.free g ≡ 0 → at t'.flags g ≢ 0 → t' ≡ invalidate G l g t
   unfolding invalidate
-  invalidate_flagged f h = rw (eq-eqb _ _ (free_at G w u g 0 hg ∙ f), ne_eqb _ _ (λ q. h (sym (flags_at G w u g 0 hg) ∙ q)))
+  invalidate_flagged f h = is ∙ rw (eq-eqb _ _ (sym free_same ∙ f), ne_eqb _ _ (λ q. h (flag_same ∙ q)))
 
-  pub invalidate_open : at w (o_free G + g) ≢ 0 → unlink G l g (view G w u) ≡ invalidate G l g (view G w u)
+  pub invalidate_open : at t'.free g ≢ 0 → t' ≡ invalidate G l g t
   unfolding invalidate
-  invalidate_open f = rw (ne_eqb _ _ (λ q. f (sym (free_at G w u g 0 hg) ∙ q)))
+  invalidate_open f = is ∙ rw (ne_eqb _ _ (λ q. f (free_same ∙ q)))
 
--- after a page is taken out of its list the queue is as long as it was; and if the segment is due it has room: `has_room`
-module _ {G : Geometry} {w u : List ℕ} (H : Held G w u) (w' : List ℕ) (l g : ℕ) (e : view G w' u ≡ unlink G l g (view G w u)) where
-  pub queued_fits : at w' (o_queued G) ≤ G.n
-  queued_fits = omega (arith, ap (λ t. t.queued) e, queued_at G w' u, (counted H).queued≤)
-
-  -- the words behind the queue, by the view
-  behind_is : (k : ℕ) → drop k (view G w' u).queue ≡ region (o_queue G + k) (G.n - k) w'
-  unfolding view
-  behind_is k = drop-take k G.n (drop (o_queue G) w') ∙ ap (take (G.n - k)) (drop-drop k (o_queue G) w')
-
-  pub queue_room : Mapped (view G w u) l → seg_of G (word_of (view G w u) l) ≡ g → at w (o_free G + g) ≡ 0 → at w (o_flags G + g) ≡ 0 → Room G w'
-  queue_room m is f h =
-      let C = unlink_sound G (view G w u) (counted H) l g m is in
-      let seg : g < G.n = (linked H l g m is).seg in
-      let q : at w' (o_queued G) ≡ (view G w u).queued = sym (queued_at G w' u) ∙ ap (λ t. t.queued) e in
-      record {
-        some = omega (arith, q, has_room G (unlink G l g (view G w u)) C g seg (free_at G w u g 0 seg ∙ f) (flags_at G w u g 0 seg ∙ h));
-        blank =
-            sym (behind_is (at w' (o_queued G)))
-            ∙ ap₂ drop q (ap (λ t. t.queue) e)
-            ∙ C.behind
-            ∙ ap (λ k. zeros (G.n - k)) (sym q);
-      }
+-- the map's word of l, by the word that is read
+pub map-word : (t : TablesMut) (l : ℕ) → l < t.geo.e → at t.map.now l ≡ word_of (tables_of t) l
+map-word t l h = any_default t.map.now l 0 empty (omega (arith, t.map_len))
 
 -- the two ways of forgetting
 module _ (G : Geometry) (t : Tables) (l a : ℕ) (is : a ≡ word_of t l) where
-  pub forget_none : a ≡ empty → forget G l t ≡ t
+  pub forget_none : a ≡ empty → t ≡ forget G l t
   unfolding forget
   forget_none e = rw (eq-eqb _ _ (sym is ∙ e))
 
-  pub forget_some : a ≢ empty → (g : ℕ) → g ≡ seg_of G a → forget G l t ≡ invalidate G l g t
+  pub forget_some : a ≢ empty → (g : ℕ) → g ≡ seg_of G a → invalidate G l g t ≡ forget G l t
   unfolding forget
-  forget_some m g e = rw (ne_eqb _ _ (λ q. m (is ∙ q))) (ap (λ x. invalidate G l x t) (ap (seg_of G) (sym is) ∙ sym e))
+  forget_some m g e = rw (ne_eqb _ _ (λ q. m (is ∙ q))) (ap (λ x. invalidate G l x t) (e ∙ ap (seg_of G) is))
 
--- after it the tables are sound, and a list that was shorter than the valid count has room
-pub forgotten : {G : Geometry} {w u : List ℕ} (H : Held G w u) (w' : List ℕ) (l g : ℕ) → length w' ≡ length w → view G w' u ≡ forget G l (view G w u)
-    → at (view G w u).lens g < at (view G w u).valid g → Held G w' u × (at (view G w' u).lens g < G.p)
-forgotten {G} {w} {u} H w' l g n e h =
-    let F = forgot G (view G w u) (counted H) l in
-    (held_by H n e F.sound, subst⁻¹ (λ t. at t.lens g < G.p) e (omega (arith, F.gap g h, F.sound.valid≤ g)))
+-- after it a list that was shorter than the valid count has room
+pub list_room : {G : Geometry} {t : Tables} → Counted G t → (l g : ℕ) → at t.lens g < at t.valid g → at (forget G l t).lens g < G.p
+list_room {G} {t} C l g h = let F = forgot G t C l in omega (arith, F.gap g h, F.sound.valid≤ g)

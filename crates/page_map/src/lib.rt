@@ -77,14 +77,14 @@ pub fn find_page(t: &TablesMut<'_>, bad: &[u8]) -> Option<Spot>
 }
 
 // The page is used from now on, and its segment is the allocation segment.
-pub fn spend(t: &mut TablesMut<'_>, at: Spot)
+pub fn spend(t: &mut TablesMut<'_>, spot: Spot)
     requires sound { Sound t.old.geo (tables_of t.old) }
-    requires in_bounds { (at.segment < t.old.geo.n) × (at.page < t.old.geo.p) × (0 < at t.old.free.now at.segment) }
+    requires in_bounds { (spot.segment < t.old.geo.n) × (spot.page < t.old.geo.p) × (0 < at t.old.free.now spot.segment) }
     ensures same { Same t.old t.new }
-    ensures spent { tables_of t.new ≡ spend t.old.geo at.segment at.page (tables_of t.old) }
+    ensures spent { tables_of t.new ≡ spend t.old.geo spot.segment spot.page (tables_of t.old) }
 {
-    let g = at.segment;
-    t.used[g * t.geo.p + at.page] = 1;
+    let g = spot.segment;
+    t.used[g * t.geo.p + spot.page] = 1;
     t.free[g] -= 1;
     t.valid[g] += 1;
     *t.alloc = g as u32;
@@ -146,26 +146,26 @@ pub fn forget(t: &mut TablesMut<'_>, l: LogicalPage)
 }
 
 // l goes to the end of the segment's list, and is mapped to the page.
-pub fn place(t: &mut TablesMut<'_>, l: LogicalPage, at: Spot)
-    requires in_bounds { (l.0 < t.old.geo.e) × (at.segment < t.old.geo.n) × (at.page < t.old.geo.p) × (at t.old.lens.now at.segment < t.old.geo.p) }
+pub fn place(t: &mut TablesMut<'_>, l: LogicalPage, spot: Spot)
+    requires in_bounds { (l.0 < t.old.geo.e) × (spot.segment < t.old.geo.n) × (spot.page < t.old.geo.p) × (at t.old.lens.now spot.segment < t.old.geo.p) }
     ensures same { Same t.old t.new }
-    ensures placed { tables_of t.new ≡ place t.old.geo l.0 at.segment at.page (tables_of t.old) }
+    ensures placed { tables_of t.new ≡ place t.old.geo l.0 spot.segment spot.page (tables_of t.old) }
 {
-    let g = at.segment;
+    let g = spot.segment;
     let end = g * t.geo.p + t.lens[g] as usize;
-    t.map[l.0] = t.geo.address_of(at).0;
+    t.map[l.0] = t.geo.address_of(spot).0;
     t.lists[end] = l.0 as u32;
     t.lens[g] += 1;
 }
 
 // The old page of l is dropped where it is mapped, and l goes to this page.
-pub fn remap(t: &mut TablesMut<'_>, l: LogicalPage, at: Spot)
+pub fn remap(t: &mut TablesMut<'_>, l: LogicalPage, spot: Spot)
     requires sound { Sound t.old.geo (tables_of t.old) }
-    requires in_bounds { (l.0 < t.old.geo.e) × (at.segment < t.old.geo.n) × (at.page < t.old.geo.p) }
-    requires room { at t.old.lens.now at.segment < at t.old.valid.now at.segment }
+    requires in_bounds { (l.0 < t.old.geo.e) × (spot.segment < t.old.geo.n) × (spot.page < t.old.geo.p) }
+    requires room { at t.old.lens.now spot.segment < at t.old.valid.now spot.segment }
     ensures same { Same t.old t.new }
-    ensures remapped { tables_of t.new ≡ place t.old.geo l.0 at.segment at.page (forget t.old.geo l.0 (tables_of t.old)) }
+    ensures remapped { tables_of t.new ≡ place t.old.geo l.0 spot.segment spot.page (forget t.old.geo l.0 (tables_of t.old)) }
 {
     forget(t, l);
-    place(t, l, at);
+    place(t, l, spot);
 }

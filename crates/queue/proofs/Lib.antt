@@ -1,6 +1,4 @@
 pub mod Stable
-pub mod Words
-pub mod Parts
 pub mod Ordered
 pub mod Counting
 pub mod Placing

@@ -1,4 +1,3 @@
 pub mod Laws
-pub mod Head
 pub mod Places
 pub mod Taken

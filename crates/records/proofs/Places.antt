@@ -7,34 +7,33 @@ use native.Mathlib.Omega.{arith}
 use lib.Dec.{eqb, leb}
 use lib.ListN.{length}
 use borrow.Author.Tests.{leb-true}
-use Rattle.numbers.specs.declared.Reading.{Reading}
-use Rattle.numbers.specs.declared.Reading.TheVariants.{Number, Malformed}
+use Rattle.std.proofs.Common.{Option, Some, None}
 use Rattle.numbers.specs.Groups.{number}
 use Rattle.numbers.proofs.Places.{number-place}
-use Rattle.records.specs.Trace.{Next, Found, Bad, Write, Within, after, write_record, read_record, list_record, record_of, next_record}
+use Rattle.records.specs.Trace.{Record, Write, Within, after, write_record, read_record, list_record, record_of, next_record}
 
 -- what is told of a record that is found from a place
-abbrev pub Placed : List ℕ → ℕ → Next → Type 0
-Placed xs at Bad = Unit {0}
-Placed xs at (Found e next) = (at < next) × Within xs e
+abbrev pub Placed : List ℕ → ℕ → Option (Record × ℕ) → Type 0
+Placed xs at None = Unit {0}
+Placed xs at (Some (e, next)) = (at < next) × Within xs e
 
 module _ (xs : List ℕ) where
   -- from a place further on, behind a number, and by a test
-  sooner : (at a : ℕ) (x : Next) → at < a → Placed xs a x → Placed xs at x
-  sooner at a Bad h p = tt
-  sooner at a (Found e next) h p = (omega (arith, h, p.0), p.1)
+  sooner : (at a : ℕ) (x : Option (Record × ℕ)) → at < a → Placed xs a x → Placed xs at x
+  sooner at a None h p = tt
+  sooner at a (Some (e, next)) h p = (omega (arith, h, p.0), p.1)
 
   behind
-      : (at a : ℕ) (f : ℕ → ℕ → Next)
+      : (at a : ℕ) (f : ℕ → ℕ → Option (Record × ℕ))
       → ((x next : ℕ) → a < next → next ≤ length xs → Placed xs at (f x next))
-      → Placed xs at (after (number xs a) Bad f)
+      → Placed xs at (after (number xs a) None f)
   behind at a f h = go (number xs a) refl
     where
-      go : (r : Reading) → number xs a ≡ r → Placed xs at (after r Bad f)
-      go Malformed e = tt
-      go (Number x next) e = let p = number-place xs e in h x next p.0 p.1
+      go : (r : Option (ℕ × ℕ)) → number xs a ≡ r → Placed xs at (after r None f)
+      go None e = tt
+      go (Some (x, next)) e = let p = number-place xs e in h x next p.0 p.1
 
-  tested : (at : ℕ) (t : Bool) (x y : Next) → (t ≡ true → Placed xs at x) → Placed xs at y → Placed xs at (cond t x y)
+  tested : (at : ℕ) (t : Bool) (x y : Option (Record × ℕ)) → (t ≡ true → Placed xs at x) → Placed xs at y → Placed xs at (cond t x y)
   tested at true x y p q = p refl
   tested at false x y p q = q
 
@@ -42,7 +41,7 @@ module _ (xs : List ℕ) where
   unfolding write_record
   write_placed at =
       behind at at _ λ sector a h _. behind at a _ λ len b l _.
-      tested at (leb (b + len) (length xs)) (Found (Write sector len b) (b + len)) Bad
+      tested at (leb (b + len) (length xs)) (Some (Write sector len b, b + len)) None
       (λ e. (omega (arith, h, l), leb-true (b + len) (length xs) e)) tt
 
   read_placed : (at : ℕ) → Placed xs at (read_record xs at)

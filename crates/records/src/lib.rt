@@ -2,24 +2,16 @@
 #![tactic(auto)]
 
 ghost use Rattle.std.specs.Prelude.{◌≡◌, true, set};
-ghost use Rattle.records.specs.Trace.{marking, header, write_record, read_record, list_record, record_of, next_record, small?, valued};
+ghost use Rattle.records.specs.Trace.{front, marking, header, write_record, read_record, list_record, record_of, next_record, small?};
 
 use model::{Geometry, Queueing};
-use numbers::Reading;
+use numbers::number;
 
-// What a header says: a geometry that the trace takes and the place of the first record, or why there is none.
-#[derive(Drop)]
-pub enum Header {
-    Ready(Geometry, usize),
+// Why a header is refused: for its form, or for its values.
+#[derive(Clone, Copy, Debug, PartialEq, Eq)]
+pub enum HeaderError {
     Form,
     Values,
-}
-
-// The bad segments: the place after their numbers, and whether each is below n.
-#[derive(Drop)]
-pub enum Bads {
-    Marked(usize, bool),
-    Short,
 }
 
 // A record; a write's bytes stand in the trace, at the place that is its third number.
@@ -33,14 +25,30 @@ pub enum Record {
     Restore(Queueing),
 }
 
-// A record and the place after it.
-#[derive(Drop)]
-pub enum Next {
-    Found(Record, usize),
-    Bad,
+// The seven numbers at the front of a trace: the geometry, the count of bad segments and the place of the first of them.
+#[tactic(auto, unfolding(crate::specs::Trace::front))]
+fn front(xs: &[u8]) -> Option<(Geometry, usize, usize)>
+    ensures { result ≡ front xs.now }
+{
+    let (n, at) = number(xs, 0)?;
+    let (p, at) = number(xs, at)?;
+    let (s, at) = number(xs, at)?;
+    let (w, at) = number(xs, at)?;
+    let (e, at) = number(xs, at)?;
+    let (limit, at) = number(xs, at)?;
+    let (count, at) = number(xs, at)?;
+    let geo = Geometry {
+        n,
+        p,
+        s,
+        w,
+        e,
+        limit,
+    };
+    Some((geo, count, at))
 }
 
-// The mark of segment g, if there is one.
+// The mark of segment g, if there is one. By `get_mut` the proof does not close: it tells the list's length and no element.
 fn mark(bad: &mut [u8], g: usize)
     ensures { bad.new ≡ set bad.old g 1 }
 {
@@ -49,23 +57,20 @@ fn mark(bad: &mut [u8], g: usize)
     }
 }
 
-fn mark_all(xs: &[u8], at: usize, n: usize, count: usize, bad: &mut [u8]) -> Bads
+// The bad segments, each marked if it has a mark: the place after their numbers, and whether each is below n.
+#[tactic(auto, using(crate::proofs::Laws::marking_done, crate::proofs::Laws::marking_short))]
+fn mark_all(xs: &[u8], at: usize, n: usize, count: usize, bad: &mut [u8]) -> Option<(usize, bool)>
     ensures { (result, bad.new) ≡ marking xs.now n count at true bad.old }
 {
-    let mut a = at;
+    let mut next = at;
     let mut inside = true;
-    let mut k = count;
-    while 0 < k {
-        let r = numbers::number(xs, a);
-        let Reading::Number(g, next) = r else {
-            return Bads::Short;
-        };
+    for _ in 0..count {
+        let (g, after) = number(xs, next)?;
         mark(bad, g);
-        inside = inside && g < n;
-        a = next;
-        k -= 1;
+        inside &= g < n;
+        next = after;
     }
-    Bads::Marked(a, inside)
+    Some((next, inside))
 }
 
 // The trace's own limits.
@@ -79,112 +84,69 @@ fn small(geo: Geometry) -> bool
     pages <= 1024 && geo.s <= 512 && pages * geo.s <= 32768
 }
 
-// The header, its bad segments marked in the list.
-pub fn read_header(xs: &[u8], bad: &mut [u8]) -> Header
+// The header: a geometry that the trace takes and the place of the first record, its bad segments marked in the list.
+#[tactic(auto, unfolding(crate::specs::Trace::header))]
+pub fn read_header(xs: &[u8], bad: &mut [u8]) -> Result<(Geometry, usize), HeaderError>
     ensures { (result, bad.new) ≡ header xs.now bad.old }
 {
-    let Reading::Number(n, a) = numbers::number(xs, 0) else {
-        return Header::Form;
-    };
-    let Reading::Number(p, b) = numbers::number(xs, a) else {
-        return Header::Form;
-    };
-    let Reading::Number(s, c) = numbers::number(xs, b) else {
-        return Header::Form;
-    };
-    let Reading::Number(w, d) = numbers::number(xs, c) else {
-        return Header::Form;
-    };
-    let Reading::Number(e, f) = numbers::number(xs, d) else {
-        return Header::Form;
-    };
-    let Reading::Number(limit, g) = numbers::number(xs, f) else {
-        return Header::Form;
-    };
-    let Reading::Number(count, h) = numbers::number(xs, g) else {
-        return Header::Form;
-    };
-    let geo = Geometry {
-        n,
-        p,
-        s,
-        w,
-        e,
-        limit,
-    };
-    valued(geo, mark_all(xs, h, n, count, bad))
-}
-
-fn valued(geo: Geometry, bads: Bads) -> Header
-    ensures { result ≡ valued geo bads }
-{
-    let Bads::Marked(next, inside) = bads else {
-        return Header::Form;
-    };
+    let (geo, count, at) = front(xs).ok_or(HeaderError::Form)?;
+    let (first, inside) = mark_all(xs, at, geo.n, count, bad).ok_or(HeaderError::Form)?;
     if inside && small(geo) {
-        Header::Ready(geo, next)
+        Ok((geo, first))
     } else {
-        Header::Values
+        Err(HeaderError::Values)
     }
 }
 
-fn write_record(xs: &[u8], at: usize) -> Next
+#[tactic(auto, unfolding(crate::specs::Trace::write_record))]
+fn write_record(xs: &[u8], at: usize) -> Option<(Record, usize)>
     ensures { result ≡ write_record xs.now at }
 {
-    let Reading::Number(sector, a) = numbers::number(xs, at) else {
-        return Next::Bad;
-    };
-    let Reading::Number(len, b) = numbers::number(xs, a) else {
-        return Next::Bad;
-    };
-    if xs.len() - b < len {
-        return Next::Bad;
+    let (sector, next) = number(xs, at)?;
+    let (len, bytes) = number(xs, next)?;
+    if xs.len() - bytes < len {
+        return None;
     }
-    Next::Found(Record::Write(sector, len, b), b + len)
+    Some((Record::Write(sector, len, bytes), bytes + len))
 }
 
-fn read_record(xs: &[u8], at: usize) -> Next
+#[tactic(auto, unfolding(crate::specs::Trace::read_record))]
+fn read_record(xs: &[u8], at: usize) -> Option<(Record, usize)>
     ensures { result ≡ read_record xs.now at }
 {
-    let Reading::Number(sector, a) = numbers::number(xs, at) else {
-        return Next::Bad;
-    };
-    let Reading::Number(len, b) = numbers::number(xs, a) else {
-        return Next::Bad;
-    };
-    Next::Found(Record::Read(sector, len), b)
+    let (sector, next) = number(xs, at)?;
+    let (len, next) = number(xs, next)?;
+    Some((Record::Read(sector, len), next))
 }
 
-fn list_record(xs: &[u8], at: usize) -> Next
+#[tactic(auto, unfolding(crate::specs::Trace::list_record))]
+fn list_record(xs: &[u8], at: usize) -> Option<(Record, usize)>
     ensures { result ≡ list_record xs.now at }
 {
-    let Reading::Number(m, a) = numbers::number(xs, at) else {
-        return Next::Bad;
-    };
-    Next::Found(Record::CollectList(m), a)
+    let (m, next) = number(xs, at)?;
+    Some((Record::CollectList(m), next))
 }
 
-fn record_of(xs: &[u8], kind: usize, at: usize) -> Next
+#[tactic(auto, unfolding(crate::specs::Trace::record_of))]
+fn record_of(xs: &[u8], kind: usize, at: usize) -> Option<(Record, usize)>
     ensures { result ≡ record_of xs.now kind at }
 {
     match kind {
         0 => write_record(xs, at),
         1 => read_record(xs, at),
-        2 => Next::Found(Record::Collect, at),
+        2 => Some((Record::Collect, at)),
         3 => list_record(xs, at),
-        4 => Next::Found(Record::Checkpoint, at),
-        5 => Next::Found(Record::Restore(Queueing::Empty), at),
-        6 => Next::Found(Record::Restore(Queueing::Dead), at),
-        _ => Next::Bad,
+        4 => Some((Record::Checkpoint, at)),
+        5 => Some((Record::Restore(Queueing::Empty), at)),
+        6 => Some((Record::Restore(Queueing::Dead), at)),
+        _ => None,
     }
 }
 
-// The record at a place.
-pub fn next_record(xs: &[u8], at: usize) -> Next
+// The record at a place and the place after it.
+pub fn next_record(xs: &[u8], at: usize) -> Option<(Record, usize)>
     ensures { result ≡ next_record xs.now at }
 {
-    let Reading::Number(kind, a) = numbers::number(xs, at) else {
-        return Next::Bad;
-    };
-    record_of(xs, kind, a)
+    let (kind, next) = number(xs, at)?;
+    record_of(xs, kind, next)
 }

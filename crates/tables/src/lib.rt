@@ -1,10 +1,12 @@
-// The tables that a caller lends, part by part.
+// The tables that a caller lends, part by part; and the words that they lie in, cut into these parts for a call.
 #![tactic(auto)]
 
 ghost use Rattle.std.specs.Prelude.{◌≡◌, ◌*◌, length};
 ghost use Rattle.model.specs.Numbers.{Good};
 
 use model::Geometry;
+
+pub mod packed;
 
 // "map: a word for each logical page. Of each segment: free and valid count, list length, flag, list (p slots each). used: a mark for each page."
 // The queue has n slots, `queued` in use; alloc is the allocation segment.

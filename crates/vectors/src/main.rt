@@ -2,119 +2,116 @@
 // gzip, which has code of its own, puts behind the same bytes; that of digits-9 is the check value that lists of CRCs give.
 #![tactic(auto)]
 
-ghost use Rattle.std.specs.Prelude.{◌≡◌, ◌++◌, length};
+ghost use Rattle.std.specs.Prelude.{◌≡◌, ◌++◌, ◌%◌, length, slice_index, EachIndex};
 ghost use Rattle.crc32.specs.Crc32.{crc32};
 
-use std::io;
+use std::{array, io};
 
-// How many values were compared, and how many of them were right.
+// Where the lines go, how many values were compared, and how many of them were right.
 #[derive(Drop)]
-struct Tally {
+struct Tally<'a, P> {
+    rt: &'a P,
     values: u64,
     right: u64,
 }
 
-// Compares a value with the expected one: writes its line, and counts it.
-fn row(rt: &impl Print, t: Tally, name: &str, crc: u32, expected: u32) -> io::Result<Tally> {
-    let values = t.values.wrapping_add(1);
-    if crc == expected {
-        println!(rt; "{name} {crc:08x} ok")?;
-        return Ok(Tally {
-            values,
-            right: t.right.wrapping_add(1),
-        });
+impl<P: Print> Tally<'_, P> {
+    // Compares a value with the expected one: writes its line, and counts it.
+    fn row(&mut self, name: &str, crc: u32, expected: u32) -> io::Result<()> {
+        self.values = self.values.wrapping_add(1);
+        if crc != expected {
+            return println!(self.rt; "{name} {crc:08x} WRONG, expected {expected:08x}");
+        }
+        self.right = self.right.wrapping_add(1);
+        println!(self.rt; "{name} {crc:08x} ok")
     }
-    println!(rt; "{name} {crc:08x} WRONG, expected {expected:08x}")?;
-    Ok(Tally {
-        values,
-        right: t.right,
-    })
-}
 
-// The CRC of s at once.
-fn whole(rt: &impl Print, t: Tally, name: &str, s: &[u8], expected: u32) -> io::Result<Tally> {
-    row(rt, t, name, crc32::checksum(s), expected)
-}
+    // The CRC of s at once.
+    fn whole(&mut self, name: &str, s: &[u8], expected: u32) -> io::Result<()> {
+        self.row(name, crc32::checksum(s), expected)
+    }
 
-fn texts(rt: &impl Print, t: Tally) -> io::Result<Tally> {
-    let t = whole(rt, t, "empty", b"", 0x00000000)?;
-    let t = whole(rt, t, "a", b"a", 0xe8b7be43)?;
-    let t = whole(rt, t, "abc", b"abc", 0x352441c2)?;
-    let t = whole(rt, t, "digits-9", b"123456789", 0xcbf43926)?;
-    let t = whole(rt, t, "message-digest", b"message digest", 0x20159d7f)?;
-    let t = whole(rt, t, "alphabet", b"abcdefghijklmnopqrstuvwxyz", 0x4c2750bd)?;
-    whole(
-        rt,
-        t,
-        "fox",
-        b"The quick brown fox jumps over the lazy dog",
-        0x414fa339,
-    )
-}
+    fn texts(&mut self) -> io::Result<()> {
+        let rows: [(&str, &[u8], u32); 7] = [
+            ("empty", b"", 0x00000000),
+            ("a", b"a", 0xe8b7be43),
+            ("abc", b"abc", 0x352441c2),
+            ("digits-9", b"123456789", 0xcbf43926),
+            ("message-digest", b"message digest", 0x20159d7f),
+            ("alphabet", b"abcdefghijklmnopqrstuvwxyz", 0x4c2750bd),
+            (
+                "fox",
+                b"The quick brown fox jumps over the lazy dog",
+                0x414fa339,
+            ),
+        ];
+        for (name, s, expected) in rows {
+            self.whole(name, s, expected)?;
+        }
+        Ok(())
+    }
 
-fn blocks(rt: &impl Print, t: Tally) -> io::Result<Tally> {
-    let zeros = [0u8; 512];
-    let t = whole(rt, t, "zeros-512", &zeros, 0xb2aa7578)?;
-    let ones = [255u8; 512];
-    whole(rt, t, "ones-512", &ones, 0xbd7bc39f)
+    fn blocks(&mut self) -> io::Result<()> {
+        self.whole("zeros-512", &[0; 512], 0xb2aa7578)?;
+        self.whole("ones-512", &[255; 512], 0xbd7bc39f)
+    }
+
+    // Lengths on both sides of a word of eight bytes, and of eight words.
+    fn lengths(&mut self, p: &[u8]) -> io::Result<()> {
+        let rows = [
+            ("counting-1", 1, 0xd202ef8d),
+            ("counting-7", 7, 0xad5809f9),
+            ("counting-8", 8, 0x88aa689f),
+            ("counting-9", 9, 0xbce14302),
+            ("counting-15", 15, 0xa06c675e),
+            ("counting-16", 16, 0xcecee288),
+            ("counting-17", 17, 0x2c183a19),
+            ("counting-63", 63, 0xdbdea683),
+            ("counting-64", 64, 0x100ece8c),
+            ("counting-65", 65, 0x40c06fd8),
+            ("counting-300", 300, 0x3abcfcee),
+        ];
+        for (name, k, expected) in rows {
+            self.whole(name, &p[..p.len().min(k)], expected)?;
+        }
+        Ok(())
+    }
+
+    // The counting bytes in two parts: cuts at both ends, around a word, and in the middle of one.
+    fn cuts(&mut self, p: &[u8]) -> io::Result<()> {
+        let rows = [
+            ("joined-0", 0),
+            ("joined-1", 1),
+            ("joined-7", 7),
+            ("joined-8", 8),
+            ("joined-150", 150),
+            ("joined-299", 299),
+            ("joined-300", 300),
+        ];
+        for (name, k) in rows {
+            let (a, b) = p.split_at(p.len().min(k));
+            self.row(name, crc32::joined(a, b), 0x3abcfcee)?;
+        }
+        Ok(())
+    }
+
+    fn parts(&mut self) -> io::Result<()> {
+        self.row(
+            "updated-digits-9",
+            chained(b"123", b"", b"456789"),
+            0xcbf43926,
+        )?;
+        let fox = chained(b"The quick brown fox ", b"jumps over", b" the lazy dog");
+        self.row("updated-fox", fox, 0x414fa339)
+    }
 }
 
 // The bytes 0, 1, .. 255, 0, 1, ..
 fn counting() -> [u8; 300]
-    ensures { 300 ≡ length result }
+    ensures long { 300 ≡ length result }
+    ensures counted { EachIndex result (λ k. slice_index result k ≡ k % 256) }
 {
-    let mut p = [0u8; 300];
-    let mut i: usize = 0;
-    while i < 300 {
-        p[i] = (i % 256) as u8;
-        i += 1;
-    }
-    p
-}
-
-// The first k bytes of s.
-fn head(
-    rt: &impl Print,
-    t: Tally,
-    name: &str,
-    s: &[u8],
-    k: usize,
-    expected: u32,
-) -> io::Result<Tally> {
-    let n = k.min(s.len());
-    whole(rt, t, name, &s[..n], expected)
-}
-
-// Lengths on both sides of a word of eight bytes, and of eight words.
-fn lengths(rt: &impl Print, t: Tally, p: &[u8]) -> io::Result<Tally> {
-    let t = head(rt, t, "counting-1", p, 1, 0xd202ef8d)?;
-    let t = head(rt, t, "counting-7", p, 7, 0xad5809f9)?;
-    let t = head(rt, t, "counting-8", p, 8, 0x88aa689f)?;
-    let t = head(rt, t, "counting-9", p, 9, 0xbce14302)?;
-    let t = head(rt, t, "counting-15", p, 15, 0xa06c675e)?;
-    let t = head(rt, t, "counting-16", p, 16, 0xcecee288)?;
-    let t = head(rt, t, "counting-17", p, 17, 0x2c183a19)?;
-    let t = head(rt, t, "counting-63", p, 63, 0xdbdea683)?;
-    let t = head(rt, t, "counting-64", p, 64, 0x100ece8c)?;
-    let t = head(rt, t, "counting-65", p, 65, 0x40c06fd8)?;
-    whole(rt, t, "counting-300", p, 0x3abcfcee)
-}
-
-// The counting bytes in two parts, the first of k.
-fn cut(rt: &impl Print, t: Tally, name: &str, p: &[u8], k: usize) -> io::Result<Tally> {
-    let n = k.min(p.len());
-    row(rt, t, name, crc32::joined(&p[..n], &p[n..]), 0x3abcfcee)
-}
-
-// Cuts at both ends, around a word, and in the middle of one.
-fn cuts(rt: &impl Print, t: Tally, p: &[u8]) -> io::Result<Tally> {
-    let t = cut(rt, t, "joined-0", p, 0)?;
-    let t = cut(rt, t, "joined-1", p, 1)?;
-    let t = cut(rt, t, "joined-7", p, 7)?;
-    let t = cut(rt, t, "joined-8", p, 8)?;
-    let t = cut(rt, t, "joined-150", p, 150)?;
-    let t = cut(rt, t, "joined-299", p, 299)?;
-    cut(rt, t, "joined-300", p, 300)
+    array::from_fn(|i| (i % 256) as u8)
 }
 
 // The CRC of three parts, taken in one after the other.
@@ -126,28 +123,17 @@ fn chained(a: &[u8], b: &[u8], c: &[u8]) -> u32
     !crc32::update(two, c)
 }
 
-fn parts(rt: &impl Print, t: Tally) -> io::Result<Tally> {
-    let t = row(
-        rt,
-        t,
-        "updated-digits-9",
-        chained(b"123", b"", b"456789"),
-        0xcbf43926,
-    )?;
-    let fox = chained(b"The quick brown fox ", b"jumps over", b" the lazy dog");
-    row(rt, t, "updated-fox", fox, 0x414fa339)
-}
-
 fn main(rt: HostRuntime) -> io::Result<()> {
     let p = counting();
-    let t = Tally {
+    let mut t = Tally {
+        rt: &rt,
         values: 0,
         right: 0,
     };
-    let t = texts(&rt, t)?;
-    let t = blocks(&rt, t)?;
-    let t = lengths(&rt, t, &p)?;
-    let t = cuts(&rt, t, &p)?;
-    let t = parts(&rt, t)?;
+    t.texts()?;
+    t.blocks()?;
+    t.lengths(&p)?;
+    t.cuts(&p)?;
+    t.parts()?;
     println!(rt; "{} values, {} right", t.values, t.right)
 }

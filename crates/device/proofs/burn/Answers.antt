@@ -2,8 +2,8 @@
 use Rattle.device.proofs.Laws.{burn-endless, burn_less}
 use Rattle.device.proofs.burn.Goals as goal
 
-pub returns-then-f-eq18446744073709551615 : goal.returns-then-f-eq18446744073709551615
-returns-then-f-eq18446744073709551615 c = burn-endless _ c.if-f-eq18446744073709551615.true
+pub returns-then-fuse-ne-ENDLESS : goal.returns-then-fuse-ne-ENDLESS
+returns-then-fuse-ne-ENDLESS c = burn_less _ c.if-fuse-ne-ENDLESS.true
 
-pub returns-else-f-eq18446744073709551615 : goal.returns-else-f-eq18446744073709551615
-returns-else-f-eq18446744073709551615 c = burn_less _ c.if-f-eq18446744073709551615.false
+pub returns-else-fuse-ne-ENDLESS : goal.returns-else-fuse-ne-ENDLESS
+returns-else-fuse-ne-ENDLESS c = burn-endless _ c.if-fuse-ne-ENDLESS.false

@@ -1,56 +1,33 @@
--- What is found from the start is what is found from here: one law for each way on.
-use Rattle.std.proofs.Common.{ℕ, List, ◌≡◌, ◌+◌, ◌%◌, ◌≤◌, ◌<◌, sym, ap, ◌∙◌, arith}
-use Rattle.std.proofs.Math.Nat.{mod-lt}
-use Rattle.model.specs.declared.Geometry.{Geometry}
-use Rattle.model.specs.Tables.{at, view, o_free, o_alloc}
-use Rattle.model.specs.Contract.{Held}
-use Rattle.model.proofs.View.{alloc_at}
-use Rattle.page_map.proofs.Words.{row_of}
+-- One law for each way on: `walk_bad`, `walk_full`, `walk_here`, `walk_end`.
+use Rattle.std.proofs.Common.{sym, ◌∙◌, arith}
+use Rattle.tables.specs.Parts.{tables_of}
+use Rattle.page_map.proofs.Drop.{counted}
 use Rattle.page_map.proofs.Walk.{find_is, walk_bad, walk_full, walk_here, walk_end}
 use Rattle.page_map.proofs.find_page.Goals as goal
-use Rattle.page_map.proofs.find_page.Goals.{then-bad-g-eq0+else-free-ne0, else-bad-g-eq0}
+use Rattle.page_map.proofs.find_page.Goals.{else-bad-segment-eq0-via-then-bad-segment-eq0+else-free-ne0, else-bad-segment-eq0-via-else-bad-segment-eq0}
 
--- the segment looked at, by the allocation segment that was read
-seg_is : (G : Geometry) (w u : List ℕ) (i a : ℕ) → a ≡ at w (o_alloc G) → (a + i) % G.n ≡ ((view G w u).alloc + i) % G.n
-seg_is G w u i a e = ap (λ x. (x + i) % G.n) (e ∙ sym (alloc_at G w u))
+pub loop-i-init : goal.loop-i-init
+loop-i-init c = find_is _ _ _
 
--- its free count is at most p
-room : {G : Geometry} {w u : List ℕ} → Held G w u → (x : ℕ) → at w (o_free G + x % G.n) ≤ G.p
-room {G} {w} {u} H x =
-    let low : x % G.n < G.n = mod-lt x (omega (arith, H.good.n≥)) in
-    omega (arith, row_of H (x % G.n) low)
+pub loop-i-preserved : goal.loop-i-preserved
+loop-i-preserved c =
+    let t = c.args.t.now in
+    let bad = c.args.bad.now in
+    let i = c.loop-i.i in
+    c.loop-i.invariant
+    ∙ elim c.else-bad-segment-eq0.branch [
+      | else-bad-segment-eq0-via-then-bad-segment-eq0+else-free-ne0 w ↦
+          walk_full t.geo bad (tables_of t) i c.loop-i-test.true w.if-bad-segment-eq0.true w.if-free-ne0.false
+      | else-bad-segment-eq0-via-else-bad-segment-eq0 w ↦ walk_bad t.geo bad (tables_of t) i c.loop-i-test.true w.if-bad-segment-eq0.false
+    ]
 
-pub walk-init : goal.walk-init
-walk-init c = (omega arith, find_is _ _ _ _)
-
-pub overflow_sub-first : goal.overflow_sub-first
-overflow_sub-first c = room c.requires.held (c.wide-alloc.result + c.walk.i)
-
-pub walk-preserved : goal.walk-preserved
-walk-preserved c =
-    let G = c.args.geo in
-    let w = c.args.tab.now in
-    let u = c.args.used.now in
-    let i = c.walk.i in
-    let here = c.walk.invariant.1 in
-    let g = (c.wide-alloc.result + i) % G.n in
-    let e = seg_is G w u i c.wide-alloc.result c.wide-alloc.ensures in (
-      omega arith,
-      elim c.if-bad-g-eq0.branch [
-        | then-bad-g-eq0+else-free-ne0 b ↦ here ∙ walk_full G c.args.bad.now w u i c.if-i-n.false g e b.if-bad-g-eq0.true b.if-free-ne0.false
-        | else-bad-g-eq0 b ↦ here ∙ walk_bad G c.args.bad.now w u i c.if-i-n.false g e b.if-bad-g-eq0.false
-      ],
-    )
-
-pub returns-then-i-n : goal.returns-then-i-n
-returns-then-i-n c = sym (c.walk.invariant.1 ∙ walk_end _ _ _ _ _ c.if-i-n.true)
+pub returns : goal.returns
+returns c =
+    let t = c.args.t.now in
+    sym (c.loop-i.invariant ∙ walk_end t.geo c.args.bad.now (tables_of t) c.loop-i.i (omega arith))
 
 pub returns-then-free-ne0 : goal.returns-then-free-ne0
 returns-then-free-ne0 c =
-    let G = c.args.geo in
-    let w = c.args.tab.now in
-    let u = c.args.used.now in
-    let i = c.walk.i in
-    let g = (c.wide-alloc.result + i) % G.n in
-    let e = seg_is G w u i c.wide-alloc.result c.wide-alloc.ensures in
-    sym (c.walk.invariant.1 ∙ walk_here G c.args.bad.now w u i c.if-i-n.false g e c.requires.held c.if-bad-g-eq0.true c.if-free-ne0.true)
+    let t = c.args.t.now in
+    let C = counted t c.requires.sound in
+    sym (c.loop-i.invariant ∙ walk_here t.geo c.args.bad.now (tables_of t) c.loop-i.i c.loop-i-test.true C c.if-bad-segment-eq0.true c.if-free-ne0.true)

@@ -1,22 +1,22 @@
 -- By the map's word: `forget_none`, `forget_some`.
-use Rattle.std.proofs.Common.{sym, ◌∙◌}
+use Rattle.std.proofs.Common.{sym, ap, ◌∙◌}
 use borrow.Author.Tests.{eqb-true, eqb-false}
-use Rattle.model.specs.Tables.{view}
-use Rattle.page_map.proofs.Drop.{forget_none, forget_some}
+use Rattle.model.specs.declared.Spot.{Spot}
+use Rattle.tables.specs.Parts.{tables_of}
+use Rattle.page_map.proofs.Drop.{map-word, forget_none, forget_some}
 use Rattle.page_map.proofs.forget.Goals as goal
 
-pub returns-then-is_empty : goal.returns-then-is_empty
-returns-then-is_empty c =
-    let G = c.args.geo in
-    let a = c.word_of-a.result.0 in
-    let e = eqb-true _ _ (sym c.is_empty.ensures ∙ c.if-is_empty.true) in
-    λ u. sym (forget_none G (view G c.args.tab.now u) c.args.l.0 a (c.word_of-a.ensures u) e)
+pub returns-then-is_empty-clause-forgotten : goal.returns-then-is_empty-clause-forgotten
+returns-then-is_empty-clause-forgotten c =
+    let t = c.args.t.now in
+    let l = c.args.l.0 in
+    let none = eqb-true _ _ (sym c.is_empty.ensures ∙ c.if-is_empty.true) in
+    forget_none t.geo (tables_of t) l _ (map-word t l c.requires.l_lt_e) none
 
-pub returns : goal.returns
-returns c =
-    let G = c.args.geo in
-    let a = c.word_of-a.result.0 in
-    let n = eqb-false _ _ (sym c.is_empty.ensures ∙ c.if-is_empty.false) in
-    λ u.
-    c.invalidate.ensures u
-    ∙ sym (forget_some G (view G c.args.tab.now u) c.args.l.0 a (c.word_of-a.ensures u) n c.segment_of-g.result c.segment_of-g.ensures)
+pub returns-clause-forgotten : goal.returns-clause-forgotten
+returns-clause-forgotten c =
+    let t = c.args.t.now in
+    let l = c.args.l.0 in
+    let some = eqb-false _ _ (sym c.is_empty.ensures ∙ c.if-is_empty.false) in
+    let g = ap (λ (s : Spot). s.segment) c.spot_of-g.ensures in
+    c.invalidate.ensures.invalidated ∙ forget_some t.geo (tables_of t) l _ (map-word t l c.requires.l_lt_e) some c.spot_of-g.result.segment g

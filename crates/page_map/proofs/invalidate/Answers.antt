@@ -1,44 +1,31 @@
--- The two tests are the definition's `due`: `invalidate-due`, `invalidate_flagged`, `invalidate_open`.
-use Rattle.std.proofs.Common.{ap, ◌∙◌}
-use Rattle.model.specs.PageMap.{enqueue}
-use Rattle.page_map.proofs.Words.{linked}
-use Rattle.page_map.proofs.Drop.{queued_fits, queue_room, invalidate-due, invalidate_flagged, invalidate_open}
+-- The two tests are the definition's `due`: `invalidate-due`, `invalidate_flagged`, `invalidate_open`; and a due segment has room: `due_room`.
+use Rattle.std.proofs.Common.{◌∙◌}
+use Rattle.tables.specs.Parts.{tables_of}
+use Rattle.page_map.proofs.Drop.{counted, seg, due_room, invalidate-due, invalidate_flagged, invalidate_open}
 use Rattle.page_map.proofs.invalidate.Goals as goal
+use Rattle.page_map.proofs.invalidate.Goals.{else-t-g-eq0-via-then-t-g-eq0+else-t-g-eq0-2, else-t-g-eq0-via-else-t-g-eq0}
 
-pub enqueue-requires-clause-g_lt_n : goal.enqueue-requires-clause-g_lt_n
-enqueue-requires-clause-g_lt_n c =
-    let r = c.requires in
-    let l = c.args.l.0 in
-    let g = c.args.g in
-    ((linked r.1 l g r.2 r.3).seg, queued_fits r.1 c.unlink.new.tab l g (c.unlink.ensures r.0))
+pub enqueue-requires : goal.enqueue-requires
+enqueue-requires c =
+    let t = c.args.t.now in
+    let m = c.requires.mapped in
+    let C = counted t c.requires.sound in
+    let room =
+    due_room t.geo (tables_of t) c.args.l.0 c.args.g _ c.unlink.ensures.unlinked C m.0 m.1 c.if-t-g-eq0.true c.if-t-g-eq0-2.true in
+    record { room = rw c.unlink.ensures.same.geo (seg C c.args.l.0 c.args.g m.0 m.1, room) }
 
-pub enqueue-requires-clause-room : goal.enqueue-requires-clause-room
-enqueue-requires-clause-room c =
-    let r = c.requires in
-    queue_room r.1 c.unlink.new.tab c.args.l.0 c.args.g (c.unlink.ensures r.0) r.2 r.3 c.if-x-eq0.true c.if-y-eq0.true
+pub returns-then-t-g-eq0-2-clause-invalidated : goal.returns-then-t-g-eq0-2-clause-invalidated
+returns-then-t-g-eq0-2-clause-invalidated c =
+    let t = c.args.t.now in
+    c.enqueue.ensures.queued
+    ∙ invalidate-due t.geo (tables_of t) c.args.l.0 c.args.g _ c.unlink.ensures.unlinked c.if-t-g-eq0.true c.if-t-g-eq0-2.true
 
-pub returns-then-y-eq0 : goal.returns-then-y-eq0
-returns-then-y-eq0 c =
-    let r = c.requires in
-    let G = c.args.geo in
-    let l = c.args.l.0 in
-    let g = c.args.g in
-    λ u.
-    c.enqueue.ensures u
-    ∙ ap (enqueue G g) (c.unlink.ensures u)
-    ∙ invalidate-due G c.args.tab.now l g (linked r.1 l g r.2 r.3).seg u c.if-x-eq0.true c.if-y-eq0.true
-
-pub returns-else-y-eq0 : goal.returns-else-y-eq0
-returns-else-y-eq0 c =
-    let r = c.requires in
-    let l = c.args.l.0 in
-    let g = c.args.g in
-    λ u.
-    c.unlink.ensures u ∙ invalidate_flagged c.args.geo c.args.tab.now l g (linked r.1 l g r.2 r.3).seg u c.if-x-eq0.true c.if-y-eq0.false
-
-pub returns-else-x-eq0 : goal.returns-else-x-eq0
-returns-else-x-eq0 c =
-    let r = c.requires in
-    let l = c.args.l.0 in
-    let g = c.args.g in
-    λ u. c.unlink.ensures u ∙ invalidate_open c.args.geo c.args.tab.now l g (linked r.1 l g r.2 r.3).seg u c.if-x-eq0.false
+pub returns-else-t-g-eq0-clause-invalidated : goal.returns-else-t-g-eq0-clause-invalidated
+returns-else-t-g-eq0-clause-invalidated c =
+    let t = c.args.t.now in
+    let is = c.unlink.ensures.unlinked in
+    elim c.else-t-g-eq0.branch [
+      | else-t-g-eq0-via-then-t-g-eq0+else-t-g-eq0-2 w ↦
+          invalidate_flagged t.geo (tables_of t) c.args.l.0 c.args.g _ is w.if-t-g-eq0.true w.if-t-g-eq0-2.false
+      | else-t-g-eq0-via-else-t-g-eq0 w ↦ invalidate_open t.geo (tables_of t) c.args.l.0 c.args.g _ is w.if-t-g-eq0.false
+    ]

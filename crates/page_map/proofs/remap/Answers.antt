@@ -1,9 +1,14 @@
--- Forgetting, then placing; the list that gets the page has room: `forgotten`.
-use Rattle.page_map.proofs.Drop.{forgotten}
+-- The list that gets the page has room: `list_room`.
+use Rattle.std.proofs.Common.{ap, arith}
+use Rattle.model.specs.Tables.{Tables, at}
+use Rattle.page_map.proofs.Drop.{counted, list_room}
 use Rattle.page_map.proofs.remap.Goals as goal
 
-pub place-requires-clause-by_index : goal.place-requires-clause-by_index
-place-requires-clause-by_index c =
-    let b = c.requires.by_index in
-    let f = forgotten b.1 c.forget.new.tab c.args.l.0 c.args.g c.forget.auto.tab (c.forget.ensures b.0) b.2 in
-    (b.0, f.0, f.1)
+pub place-requires : goal.place-requires
+place-requires c =
+    let t = c.args.t.now in
+    let g = c.args.spot.segment in
+    let b = c.requires.in_bounds in
+    let room = list_room (counted t c.requires.sound) c.args.l.0 g c.requires.room in
+    let lens = ap (λ (t : Tables). at t.lens g) c.forget.ensures.forgotten in
+    record { in_bounds = rw c.forget.ensures.same.geo (b.0, b.1, b.2, omega (arith, room, lens)) }

@@ -1,5 +1,0 @@
--- The measure is x.
-use Rattle.lines.proofs.+put_decimal.Given as goal
-
-abbrev pub decreases-put_decimal : goal.decreases-put_decimal
-decreases-put_decimal l = l.x
