@@ -82,10 +82,8 @@ pub extern "C" fn shr_read(
         (lent (recorder tab.now used.now (flash bytes.now [] [] 0)) out.new (seen.new ∷ [])) result }
 {
     let geo = Geometry::of(n, p, s, w, e, limit);
-    guard::number(
-        Numbers::Old,
-        ftl::read(geo, sector, length, tab, used, bytes, out, seen),
-    )
+    let answer = ftl::read(geo, sector, length, tab, used, bytes, out, seen);
+    guard::number(Numbers::Old, answer)
 }
 
 // Bytes at a sector, within one page.
@@ -116,12 +114,10 @@ pub extern "C" fn shr_write(
         (lent (recorder tab.new used.new (flash bytes.new marks.new counts.now fuse.new)) [] (page.new ∷ seen.new ∷ [])) result }
 {
     let geo = Geometry::of(n, p, s, w, e, limit);
-    guard::number(
-        Numbers::Old,
-        ftl::write(
-            geo, sector, len, xs, bad, tab, used, bytes, marks, counts, fuse, page, seen,
-        ),
-    )
+    let answer = ftl::write(
+        geo, sector, len, xs, bad, tab, used, bytes, marks, counts, fuse, page, seen,
+    );
+    guard::number(Numbers::Old, answer)
 }
 
 // One collection.
@@ -150,12 +146,10 @@ pub extern "C" fn shr_collect(
         (lent (recorder tab.new used.new (flash bytes.new marks.new counts.new fuse.new)) [] (page.new ∷ seen.new ∷ order.new ∷ [])) result }
 {
     let geo = Geometry::of(n, p, s, w, e, limit);
-    guard::number(
-        Numbers::Old,
-        ftl::collect(
-            geo, bad, tab, used, bytes, marks, counts, fuse, page, seen, order,
-        ),
-    )
+    let answer = ftl::collect(
+        geo, bad, tab, used, bytes, marks, counts, fuse, page, seen, order,
+    );
+    guard::number(Numbers::Old, answer)
 }
 
 // Collections from the list, at most m of them counted.
@@ -185,12 +179,10 @@ pub extern "C" fn shr_collect_list(
         (lent (recorder tab.new used.new (flash bytes.new marks.new counts.new fuse.new)) [] (page.new ∷ seen.new ∷ order.new ∷ [])) result }
 {
     let geo = Geometry::of(n, p, s, w, e, limit);
-    guard::number(
-        Numbers::Old,
-        ftl::collect_list(
-            geo, m, bad, tab, used, bytes, marks, counts, fuse, page, seen, order,
-        ),
-    )
+    let answer = ftl::collect_list(
+        geo, m, bad, tab, used, bytes, marks, counts, fuse, page, seen, order,
+    );
+    guard::number(Numbers::Old, answer)
 }
 
 // Collections from the list, unless more pages are free than the threshold.
@@ -221,12 +213,10 @@ pub extern "C" fn shr_collect_threshold(
         (lent (recorder tab.new used.new (flash bytes.new marks.new counts.new fuse.new)) [] (page.new ∷ seen.new ∷ order.new ∷ [])) result }
 {
     let geo = Geometry::of(n, p, s, w, e, limit);
-    guard::number(
-        Numbers::Old,
-        ftl::collect_threshold(
-            geo, threshold, m, bad, tab, used, bytes, marks, counts, fuse, page, seen, order,
-        ),
-    )
+    let answer = ftl::collect_threshold(
+        geo, threshold, m, bad, tab, used, bytes, marks, counts, fuse, page, seen, order,
+    );
+    guard::number(Numbers::Old, answer)
 }
 
 // The same four in the numbers of 02, M-101: 28 where no segment outside the bad list has room, 121 where the device refuses a copy.
@@ -257,13 +247,10 @@ pub extern "C" fn shr_write_told(
         (lent (recorder tab.new used.new (flash bytes.new marks.new counts.now fuse.new)) [] (page.new ∷ seen.new ∷ [])) result }
 {
     let geo = Geometry::of(n, p, s, w, e, limit);
-    guard::number(
-        Numbers::New,
-        ftl::write(
-            geo, // no room is 28
-            sector, len, xs, bad, tab, used, bytes, marks, counts, fuse, page, seen,
-        ),
-    )
+    let answer = ftl::write(
+        geo, sector, len, xs, bad, tab, used, bytes, marks, counts, fuse, page, seen,
+    );
+    guard::number(Numbers::New, answer) // no room is 28
 }
 
 #[unsafe(no_mangle)]
@@ -291,13 +278,10 @@ pub extern "C" fn shr_collect_told(
         (lent (recorder tab.new used.new (flash bytes.new marks.new counts.new fuse.new)) [] (page.new ∷ seen.new ∷ order.new ∷ [])) result }
 {
     let geo = Geometry::of(n, p, s, w, e, limit);
-    guard::number(
-        Numbers::New,
-        ftl::collect(
-            geo, // a copy: 28 or 121
-            bad, tab, used, bytes, marks, counts, fuse, page, seen, order,
-        ),
-    )
+    let answer = ftl::collect(
+        geo, bad, tab, used, bytes, marks, counts, fuse, page, seen, order,
+    );
+    guard::number(Numbers::New, answer) // a copy: 28 or 121
 }
 
 #[unsafe(no_mangle)]
@@ -326,13 +310,10 @@ pub extern "C" fn shr_collect_list_told(
         (lent (recorder tab.new used.new (flash bytes.new marks.new counts.new fuse.new)) [] (page.new ∷ seen.new ∷ order.new ∷ [])) result }
 {
     let geo = Geometry::of(n, p, s, w, e, limit);
-    guard::number(
-        Numbers::New,
-        ftl::collect_list(
-            geo, // a copy: 28 or 121
-            m, bad, tab, used, bytes, marks, counts, fuse, page, seen, order,
-        ),
-    )
+    let answer = ftl::collect_list(
+        geo, m, bad, tab, used, bytes, marks, counts, fuse, page, seen, order,
+    );
+    guard::number(Numbers::New, answer) // a copy: 28 or 121
 }
 
 #[unsafe(no_mangle)]
@@ -362,13 +343,10 @@ pub extern "C" fn shr_collect_threshold_told(
         (lent (recorder tab.new used.new (flash bytes.new marks.new counts.new fuse.new)) [] (page.new ∷ seen.new ∷ order.new ∷ [])) result }
 {
     let geo = Geometry::of(n, p, s, w, e, limit);
-    guard::number(
-        Numbers::New,
-        ftl::collect_threshold(
-            geo, // a copy: 28 or 121
-            threshold, m, bad, tab, used, bytes, marks, counts, fuse, page, seen, order,
-        ),
-    )
+    let answer = ftl::collect_threshold(
+        geo, threshold, m, bad, tab, used, bytes, marks, counts, fuse, page, seen, order,
+    );
+    guard::number(Numbers::New, answer) // a copy: 28 or 121
 }
 
 // The checkpoint, into the front of the buffer.
@@ -414,10 +392,8 @@ pub extern "C" fn shr_restore(
         (lent (recorder tab.new used.new no_flash) [] (taken.new ∷ [])) result }
 {
     let geo = Geometry::of(n, p, s, w, e, limit);
-    guard::number(
-        Numbers::Old,
-        ftl::restore(geo, Queueing::Empty, file, tab, used, taken),
-    )
+    let answer = ftl::restore(geo, Queueing::Empty, file, tab, used, taken);
+    guard::number(Numbers::Old, answer)
 }
 
 // The same with each segment queued that has free count 0 and a list shorter than p (02, M-109).
@@ -440,10 +416,8 @@ pub extern "C" fn shr_restore_dead(
         (lent (recorder tab.new used.new no_flash) [] (taken.new ∷ [])) result }
 {
     let geo = Geometry::of(n, p, s, w, e, limit);
-    guard::number(
-        Numbers::Old,
-        ftl::restore(geo, Queueing::Dead, file, tab, used, taken),
-    )
+    let answer = ftl::restore(geo, Queueing::Dead, file, tab, used, taken);
+    guard::number(Numbers::Old, answer)
 }
 
 // The sizes of all that is lent; 0 for a geometry that is refused.

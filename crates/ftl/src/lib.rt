@@ -19,7 +19,7 @@ use device::FlashMut;
 use model::{Answer, Cause, Geometry, LogicalPage, PhysicalAddress, Queueing};
 use tables::packed::on_packed;
 
-mod calls;
+pub mod calls;
 
 use calls::{Collecting, Opening, Passes, Restoring, Writing};
 
