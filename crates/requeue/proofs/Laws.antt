@@ -1,6 +1,5 @@
 -- One turn of the walk that queues, and its end. Assumes nothing.
 use Prim.Native.Nat.{ℕ, suc, ◌+◌, ◌-◌, ◌≤◌, ◌<◌}
-use native.Mathlib.Nat.{sub-zero}
 use native.Mathlib.Numerals.{add-one}
 use native.Mathlib.Omega.{arith}
 use mathlib.Core.Path.{◌≡◌, sym, ap, ◌∙◌}
@@ -14,23 +13,19 @@ pub record Walked (G : Geometry) (start : Tables) (g : ℕ) (t : Tables) : Type 
   pub room : t.queued ≤ g
   pub rest : queue_dead G (G.n - g) g t ≡ queue_dead G G.n 0 start
 
-module _ (G : Geometry) (start : Tables) where
-  pub walk_start : start.queued ≡ 0 → Walked G start 0 start
-  walk_start e = record { room = omega arith; rest = ap (λ k. queue_dead G k 0 start) (sub-zero G.n) }
+module _ (G : Geometry) (start : Tables) (g : ℕ) (t : Tables) (W : Walked G start g t) where
+  turn : g < G.n → queue_dead G (G.n - g) g t ≡ queue_dead G (G.n - (g + 1)) (g + 1) (cond (dead? G g t) (queue_last G g t) t)
+  unfolding queue_dead
+  turn h =
+      let one : G.n - g ≡ suc (G.n - (g + 1)) = omega arith in
+      rw (one, add-one g)
 
-  module _ (g : ℕ) (t : Tables) (W : Walked G start g t) where
-    turn : g < G.n → queue_dead G (G.n - g) g t ≡ queue_dead G (G.n - (g + 1)) (g + 1) (cond (dead? G g t) (queue_last G g t) t)
-    unfolding queue_dead
-    turn h =
-        let one : G.n - g ≡ suc (G.n - (g + 1)) = omega arith in
-        rw (one, add-one g)
+  pub walk_queued : g < G.n → dead? G g t ≡ true → Walked G start (g + 1) (queue_last G g t)
+  walk_queued h e = record { room = omega (arith, W.room); rest = rw e at (sym (turn h)) ∙ W.rest }
 
-    pub walk_queued : g < G.n → dead? G g t ≡ true → Walked G start (g + 1) (queue_last G g t)
-    walk_queued h e = record { room = omega (arith, W.room); rest = rw e at (sym (turn h)) ∙ W.rest }
+  pub walk_passed : g < G.n → dead? G g t ≡ false → Walked G start (g + 1) t
+  walk_passed h e = record { room = omega (arith, W.room); rest = rw e at (sym (turn h)) ∙ W.rest }
 
-    pub walk_passed : g < G.n → dead? G g t ≡ false → Walked G start (g + 1) t
-    walk_passed h e = record { room = omega (arith, W.room); rest = rw e at (sym (turn h)) ∙ W.rest }
-
-    pub walk_end : G.n ≤ g → t ≡ queue_dead G G.n 0 start
-    unfolding queue_dead
-    walk_end h = let none : G.n - g ≡ 0 = omega arith in sym (ap (λ k. queue_dead G k g t) none) ∙ W.rest
+  pub walk_end : G.n ≤ g → t ≡ queue_dead G G.n 0 start
+  unfolding queue_dead
+  walk_end h = let none : G.n - g ≡ 0 = omega arith in sym (ap (λ k. queue_dead G k g t) none) ∙ W.rest
