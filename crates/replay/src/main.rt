@@ -3,763 +3,482 @@
 
 ghost use Rattle.std.specs.Prelude.{◌≡◌, ◌≤◌, length};
 ghost use Rattle.crc32.specs.Crc32.{crc32, after};
+ghost use Rattle.guard.specs.Countable.{Countable};
 ghost use Rattle.model.specs.Checkpoint.{long, words};
 ghost use Rattle.replay.specs.Lent.{everything};
 
-use model::{Geometry, Numbers, Queueing};
-use numbers::Reading;
-use std::io;
-use std::io::{Read, Write};
-use std::num::wrapping_add_u64;
+use model::{Answer, Geometry, Numbers, Queueing};
+use std::fmt;
+use std::io::Read;
 
-// A fuse without end.
-const ENDLESS: u64 = 18446744073709551615;
-
-// The steps that are no call. The nine calls are 4 format, 5 open, 6 read, 7 write, 8 collect, 9 from the list, 10 with a threshold,
-// 11 encode, 12 restore; 13 to 16 are 7 to 10 in the new numbers, 17 is 12 with the dead queued.
-const END: usize = 0;
-
-const LENGTH: usize = 1;
-
-const POKE: usize = 2;
-
-const FUSE: usize = 3;
-
-const LAST_OLD: usize = 12;
-
-const LAST_TOLD: usize = 16;
-
-const LAST_CALL: usize = 17;
-
-// The place after what was read.
-#[derive(Drop)]
-enum Place {
-    At(usize),
-    Malformed,
+// What a call comes to: whether it is refused, its answer without sign, and the CRC of all that is lent after it.
+// A call is refused by 1 or not by 0; of a stored one `refused` is any number.
+#[derive(Clone, Copy, PartialEq, Eq)]
+struct Outcome {
+    refused: usize,
+    magnitude: u64,
+    crc: u64,
 }
 
-// A step's number, and the numbers behind it: for a call its two arguments, whether it is refused, the answer without sign, the CRC.
+impl Outcome {
+    fn new(answer: i64, crc: u32) -> Outcome {
+        Outcome {
+            refused: usize::from(answer.is_negative()),
+            magnitude: answer.unsigned_abs(),
+            crc: u64::from(crc),
+        }
+    }
+}
+
+impl fmt::Display for Outcome {
+    fn fmt<W: fmt::Write>(&self, f: &mut fmt::Formatter<W>) -> fmt::Result {
+        let sign = if self.refused == 0 { "" } else { "-" };
+        let magnitude = self.magnitude;
+        let crc = self.crc;
+        write!(f, "{sign}{magnitude} and {crc}")
+    }
+}
+
+// A public entry, and what it takes beside the geometry and what it is lent.
 #[derive(Clone, Copy)]
-struct Step {
-    op: usize,
-    a: usize,
-    b: usize,
-    c: usize,
-    d: usize,
-    e: usize,
+enum Entry {
+    Format,
+    Open,
+    Read { sector: usize, len: usize },
+    Write { sector: usize, len: usize },
+    Collect,
+    CollectList { passes: usize },
+    CollectThreshold { threshold: u64, passes: usize },
+    Encode,
+    Restore(Queueing),
 }
 
-// A step and the place after it.
-#[derive(Drop)]
-enum Next {
-    Found(Step, usize),
-    Malformed,
-}
-
-// What a step came to: the place after it and the calls made, or the case's end, or a difference.
-#[derive(Drop)]
-enum Told {
-    On(usize, u64),
-    Ended(usize),
-    Differs(usize),
-    Malformed,
-}
-
-// A case played: the place after it, its calls, and whether it differs.
-#[derive(Drop)]
-enum Played {
-    Whole(usize, u64, u64),
-    Malformed,
-}
-
-// What a call answers, and the CRC of all that is lent after it.
+// A call, the numbers in which it answers, and what is stored of it.
 #[derive(Clone, Copy)]
-struct Found {
-    answer: i64,
-    crc: u32,
+struct Call {
+    entry: Entry,
+    numbers: Numbers,
+    expected: Outcome,
 }
 
+// A step of a case. A part is named by its place in `ROOMS`.
+#[derive(Clone, Copy)]
+enum Step {
+    End,
+    Length {
+        part: usize,
+        len: usize,
+    },
+    Poke {
+        part: usize,
+        place: usize,
+        value: usize,
+    },
+    Fuse(u64),
+    Call(Call),
+}
+
+// The numbers from a place on, and the place after them.
+fn row<const N: usize>(xs: &[u8], at: usize) -> Option<([usize; N], usize)> {
+    let mut row = [0; N];
+    let mut next = at;
+    for x in row.iter_mut() {
+        (*x, next) = numbers::number(xs, next)?;
+    }
+    Some((row, next))
+}
+
+impl Call {
+    // The call of a step by its number: 4 to 12 are the nine entries; 13 to 16 are 7 to 10 in the new numbers, 17 is 12 with the dead queued.
+    fn of(op: usize, a: usize, b: usize, expected: Outcome) -> Option<Call> {
+        let entry = match op {
+            4 => Entry::Format,
+            5 => Entry::Open,
+            6 => Entry::Read { sector: a, len: b },
+            7 | 13 => Entry::Write { sector: a, len: b },
+            8 | 14 => Entry::Collect,
+            9 | 15 => Entry::CollectList { passes: a },
+            10 | 16 => Entry::CollectThreshold {
+                threshold: a as u64,
+                passes: b,
+            },
+            11 => Entry::Encode,
+            12 => Entry::Restore(Queueing::Empty),
+            17 => Entry::Restore(Queueing::Dead),
+            _ => return None,
+        };
+        let numbers = if op < 13 { Numbers::Old } else { Numbers::New };
+        Some(Call {
+            entry,
+            numbers,
+            expected,
+        })
+    }
+}
+
+impl Step {
+    // The step at a place, and the place after it.
+    fn read(xs: &[u8], at: usize) -> Option<(Step, usize)> {
+        let (op, first) = numbers::number(xs, at)?;
+        match op {
+            0 => Some((Step::End, first)),
+            1 => {
+                let ([part, len], next) = row::<2>(xs, first)?;
+                Some((Step::Length { part, len }, next))
+            }
+            2 => {
+                let ([part, place, value], next) = row::<3>(xs, first)?;
+                Some((Step::Poke { part, place, value }, next))
+            }
+            3 => {
+                let (fuse, next) = numbers::number(xs, first)?;
+                Some((Step::Fuse(fuse as u64), next))
+            }
+            _ => {
+                let ([a, b, refused, magnitude, crc], next) = row::<5>(xs, first)?;
+                let expected = Outcome {
+                    refused,
+                    magnitude: magnitude as u64,
+                    crc: crc as u64,
+                };
+                Some((Step::Call(Call::of(op, a, b, expected)?), next))
+            }
+        }
+    }
+}
+
+// The place after the case's end. A step has a byte at least.
+fn skip(xs: &[u8], first: usize) -> Option<usize> {
+    let mut at = first;
+    for _ in 0..xs.len() {
+        let (step, next) = Step::read(xs, at)?;
+        if matches!(step, Step::End) {
+            return Some(next);
+        }
+        at = next;
+    }
+    None
+}
+
+// The state of the CRC after the words' bytes, the lowest first.
+fn after_words(state: u32, ws: &[u32]) -> u32
+    ensures { result ≡ after state (words ws.now) }
+{
+    let mut crc = state;
+    for w in ws {
+        crc = crc32::update(crc, &w.to_le_bytes());
+    }
+    crc
+}
+
+fn after_fuse(state: u32, fuse: u64) -> u32
+    ensures { result ≡ after state (long fuse) }
+{
+    crc32::update(state, &fuse.to_le_bytes())
+}
+
+// What a call is lent: the tables, the flash and its fuse, the bad list, the buffer and the scratch.
 #[derive(Drop)]
+struct Lent<'a> {
+    tab: &'a mut [u32],
+    used: &'a mut [u8],
+    bytes: &'a mut [u8],
+    marks: &'a mut [u8],
+    counts: &'a mut [u32],
+    fuse: &'a mut u64,
+    bad: &'a [u8],
+    buffer: &'a mut [u8],
+    page: &'a mut [u8],
+    seen: &'a mut [u8],
+    order: &'a mut [u32],
+    taken: &'a mut [u8],
+}
+
+impl Lent<'_> {
+    // The entry's call. The buffer is a write's bytes, a read's room, an encoding's room and a restore's file.
+    fn call(self, geo: Geometry, entry: Entry) -> Answer
+        ensures { Countable result }
+    {
+        let Lent {
+            tab,
+            used,
+            bytes,
+            marks,
+            counts,
+            fuse,
+            bad,
+            buffer,
+            page,
+            seen,
+            order,
+            taken,
+        } = self;
+        match entry {
+            Entry::Format => ftl::format(geo, bytes, marks, counts, fuse),
+            Entry::Open => ftl::open(geo, tab, used),
+            Entry::Read { sector, len } => {
+                ftl::read(geo, sector, len, tab, used, bytes, buffer, seen)
+            }
+            Entry::Write { sector, len } => ftl::write(
+                geo, sector, len, buffer, bad, tab, used, bytes, marks, counts, fuse, page, seen,
+            ),
+            Entry::Collect => ftl::collect(
+                geo, bad, tab, used, bytes, marks, counts, fuse, page, seen, order,
+            ),
+            Entry::CollectList { passes } => ftl::collect_list(
+                geo, passes, bad, tab, used, bytes, marks, counts, fuse, page, seen, order,
+            ),
+            Entry::CollectThreshold { threshold, passes } => ftl::collect_threshold(
+                geo, threshold, passes, bad, tab, used, bytes, marks, counts, fuse, page, seen,
+                order,
+            ),
+            Entry::Encode => ftl::encode(geo, tab, used, buffer, seen),
+            Entry::Restore(queueing) => ftl::restore(geo, queueing, buffer, tab, used, taken),
+        }
+    }
+
+    // The CRC of all that is lent.
+    fn digest(&self) -> u32
+        ensures { result ≡ crc32
+            (everything self.now.tab.now self.now.used.now self.now.bytes.now self.now.marks.now self.now.counts.now self.now.fuse.now
+            self.now.bad.now self.now.buffer.now self.now.page.now self.now.seen.now self.now.order.now self.now.taken.now) }
+    {
+        let tab = after_words(u32::MAX, self.tab);
+        let used = crc32::update(tab, self.used);
+        let bytes = crc32::update(used, self.bytes);
+        let marks = crc32::update(bytes, self.marks);
+        let counts = after_words(marks, self.counts);
+        let fuse = after_fuse(counts, *self.fuse);
+        let bad = crc32::update(fuse, self.bad);
+        let buffer = crc32::update(bad, self.buffer);
+        let page = crc32::update(buffer, self.page);
+        let seen = crc32::update(page, self.seen);
+        let order = after_words(seen, self.order);
+        !crc32::update(order, self.taken)
+    }
+}
+
+// How long each part of a case's memory is, by the number that a step names it with.
+static ROOMS: [usize; 11] = [2048, 512, 16384, 512, 256, 256, 4096, 512, 512, 256, 512];
+
+// The memory of a case: its parts, how much of each is lent, and the fuse.
+#[derive(Drop)]
+struct Memory {
+    lens: [usize; 11],
+    tab: [u32; 2048],
+    used: [u8; 512],
+    bytes: [u8; 16384],
+    marks: [u8; 512],
+    counts: [u32; 256],
+    fuse: u64,
+    bad: [u8; 256],
+    buffer: [u8; 4096],
+    page: [u8; 512],
+    seen: [u8; 512],
+    order: [u32; 256],
+    taken: [u8; 512],
+}
+
+// The first of a part, as long as the case says.
+fn front<T>(part: &mut [T], len: usize) -> &mut [T] {
+    let len = len.min(part.len());
+    &mut part[..len]
+}
+
+// The value at a place of a part, where there is that place and its type holds the value.
+fn put<T: TryFrom<usize> + Drop>(part: &mut [T], place: usize, value: usize) -> Option<()>
+where
+    T::Error: Drop,
+{
+    *part.get_mut(place)? = T::try_from(value).ok()?;
+    Some(())
+}
+
+impl Memory {
+    // Zeroed, and a fuse without end.
+    fn new() -> Memory {
+        Memory {
+            lens: [0; 11],
+            tab: [0; 2048],
+            used: [0; 512],
+            bytes: [0; 16384],
+            marks: [0; 512],
+            counts: [0; 256],
+            fuse: u64::MAX,
+            bad: [0; 256],
+            buffer: [0; 4096],
+            page: [0; 512],
+            seen: [0; 512],
+            order: [0; 256],
+            taken: [0; 512],
+        }
+    }
+
+    fn set_length(&mut self, part: usize, len: usize) -> Option<()> {
+        if len > *ROOMS.get(part)? {
+            return None;
+        }
+        *self.lens.get_mut(part)? = len;
+        Some(())
+    }
+
+    fn poke(&mut self, part: usize, place: usize, value: usize) -> Option<()> {
+        match part {
+            0 => put(&mut self.tab, place, value),
+            1 => put(&mut self.used, place, value),
+            2 => put(&mut self.bytes, place, value),
+            3 => put(&mut self.marks, place, value),
+            4 => put(&mut self.counts, place, value),
+            5 => put(&mut self.bad, place, value),
+            6 => put(&mut self.buffer, place, value),
+            7 => put(&mut self.page, place, value),
+            8 => put(&mut self.seen, place, value),
+            9 => put(&mut self.order, place, value),
+            10 => put(&mut self.taken, place, value),
+            _ => None,
+        }
+    }
+
+    // Each part as long as the case says, in the order of `ROOMS`.
+    fn lend(&mut self) -> Lent<'_> {
+        let Memory {
+            lens,
+            tab,
+            used,
+            bytes,
+            marks,
+            counts,
+            fuse,
+            bad,
+            buffer,
+            page,
+            seen,
+            order,
+            taken,
+        } = self;
+        Lent {
+            tab: front(tab, lens[0]),
+            used: front(used, lens[1]),
+            bytes: front(bytes, lens[2]),
+            marks: front(marks, lens[3]),
+            counts: front(counts, lens[4]),
+            fuse,
+            bad: front(bad, lens[5]),
+            buffer: front(buffer, lens[6]),
+            page: front(page, lens[7]),
+            seen: front(seen, lens[8]),
+            order: front(order, lens[9]),
+            taken: front(taken, lens[10]),
+        }
+    }
+
+    // What a call comes to.
+    fn outcome(&mut self, geo: Geometry, call: Call) -> Outcome {
+        let answer = guard::number(call.numbers, self.lend().call(geo, call.entry));
+        Outcome::new(answer, self.lend().digest())
+    }
+}
+
+// A case played: the place after it, its calls, and whether one differs.
+#[derive(Clone, Copy)]
+struct Played {
+    next: usize,
+    calls: u64,
+    differs: bool,
+}
+
+// The steps of a case from zeroed memory, up to a call that differs.
+fn play(rt: &impl Print, case: u64, geo: Geometry, xs: &[u8], first: usize) -> Option<Played> {
+    let mut memory = Memory::new();
+    let mut played = Played {
+        next: first,
+        calls: 0,
+        differs: false,
+    };
+    for _ in 0..xs.len() {
+        let (step, next) = Step::read(xs, played.next)?;
+        played.next = next;
+        match step {
+            Step::End => return Some(played),
+            Step::Length { part, len } => memory.set_length(part, len)?,
+            Step::Poke { part, place, value } => memory.poke(part, place, value)?,
+            Step::Fuse(fuse) => memory.fuse = fuse,
+            Step::Call(call) => {
+                let Call { expected, .. } = call;
+                let found = memory.outcome(geo, call);
+                played.calls = played.calls.wrapping_add(1);
+                if found != expected {
+                    let number = played.calls;
+                    let _ = println!(rt;
+                        "case {case}, call {number}: expected {expected}, found {found}"
+                    );
+                    played.differs = true;
+                    played.next = skip(xs, next)?;
+                    return Some(played);
+                }
+            }
+        }
+    }
+    None
+}
+
+// A case: its geometry, and then its steps.
+fn play_case(rt: &impl Print, case: u64, xs: &[u8], at: usize) -> Option<Played> {
+    let ([n, p, s, w, e, limit], first) = row::<6>(xs, at)?;
+    let geo = Geometry {
+        n,
+        p,
+        s,
+        w,
+        e,
+        limit,
+    };
+    play(rt, case, geo, xs, first)
+}
+
+#[derive(Clone, Copy, Default)]
 struct Tally {
     cases: u64,
     calls: u64,
     differences: u64,
 }
 
-// What can't be written is passed over.
-fn say(rt: &impl Print, text: &[u8]) {
-    let _ = io::writer(rt).write_all(text);
-}
-
-fn say_number(rt: &impl Print, x: u64) {
-    let _ = print!(rt; "{x}");
-}
-
-fn least(a: usize, b: usize) -> usize
-    ensures { (result ≤ a) × (result ≤ b) }
-{
-    if a < b {
-        return a;
-    }
-    b
-}
-
-// k numbers from a place on.
-fn read_row(xs: &[u8], at: usize, k: usize, row: &mut [usize; 6]) -> Place
-    requires { k ≤ 6 }
-{
-    let mut next = at;
-    let mut i = 0;
-    while i < k {
-        let Reading::Number(x, after) = numbers::number(xs, next) else {
-            return Place::Malformed;
-        };
-        row[i] = x;
-        next = after;
-        i += 1;
-    }
-    Place::At(next)
-}
-
-// How many numbers stand behind that of a step.
-fn numbers_of(op: usize) -> usize
-    ensures { result ≤ 6 }
-{
-    if op == END {
-        return 0;
-    }
-    if op == FUSE {
-        return 1;
-    }
-    if op == LENGTH {
-        return 2;
-    }
-    if op == POKE {
-        return 3;
-    }
-    5
-}
-
-fn read_step(xs: &[u8], at: usize) -> Next {
-    let Reading::Number(op, first) = numbers::number(xs, at) else {
-        return Next::Malformed;
-    };
-    if LAST_CALL < op {
-        return Next::Malformed;
-    }
-    let mut row = [0usize; 6];
-    let Place::At(next) = read_row(xs, first, numbers_of(op), &mut row) else {
-        return Next::Malformed;
-    };
-    let step = Step {
-        op,
-        a: row[0],
-        b: row[1],
-        c: row[2],
-        d: row[3],
-        e: row[4],
-    };
-    Next::Found(step, next)
-}
-
-// The place after the case's end.
-fn skip(xs: &[u8], at: usize) -> Place {
-    let mut a = at;
-    let mut left = xs.len();
-    while 0 < left {
-        left -= 1;
-        let Next::Found(step, next) = read_step(xs, a) else {
-            return Place::Malformed;
-        };
-        if step.op == END {
-            return Place::At(next);
-        }
-        a = next;
-    }
-    Place::Malformed
-}
-
-// The state of the CRC after the words' bytes, the lowest first; no slice of words has more than 2,048.
-fn after_words(state: u32, ws: &[u32]) -> u32
-    ensures { (length ws.now ≤ 2048) → result ≡ after state (words ws.now) }
-{
-    let mut room = [0u8; 8192];
-    if 2048 < ws.len() {
-        return state;
-    }
-    let z = 4 * ws.len();
-    checkpoint::put_words(&mut room, 0, ws);
-    crc32::update(state, &room[0..z])
-}
-
-fn after_fuse(state: u32, fuse: u64) -> u32
-    ensures { result ≡ after state (long fuse) }
-{
-    let mut room = [0u8; 8];
-    checkpoint::put_long(&mut room, 0, fuse);
-    crc32::update(state, &room[0..8])
-}
-
-// The CRC of all that is lent.
-fn digest(
-    tab: &[u32],
-    used: &[u8],
-    bytes: &[u8],
-    marks: &[u8],
-    counts: &[u32],
-    fuse: u64,
-    bad: &[u8],
-    buffer: &[u8],
-    page: &[u8],
-    seen: &[u8],
-    order: &[u32],
-    taken: &[u8],
-) -> u32
-    ensures { (length tab.now ≤ 2048) → (length counts.now ≤ 2048) → (length order.now ≤ 2048) →
-        result ≡ crc32 (everything tab.now used.now bytes.now marks.now counts.now fuse
-        bad.now buffer.now page.now seen.now order.now taken.now) }
-{
-    let c0 = after_words(0xffff_ffff, tab);
-    let c1 = crc32::update(c0, used);
-    let c2 = crc32::update(c1, bytes);
-    let c3 = crc32::update(c2, marks);
-    let c4 = after_words(c3, counts);
-    let c5 = after_fuse(c4, fuse);
-    let c6 = crc32::update(c5, bad);
-    let c7 = crc32::update(c6, buffer);
-    let c8 = crc32::update(c7, page);
-    let c9 = crc32::update(c8, seen);
-    let c10 = after_words(c9, order);
-    !crc32::update(c10, taken)
-}
-
-// The numbers in which a step's call answers.
-fn numbers_in(op: usize) -> Numbers {
-    if LAST_OLD < op {
-        return Numbers::New;
-    }
-    Numbers::Old
-}
-
-// The queue that a step's restore chooses.
-fn queueing_in(op: usize) -> Queueing {
-    if LAST_TOLD < op {
-        return Queueing::Dead;
-    }
-    Queueing::Empty
-}
-
-// The step that makes the same call with the old choices.
-fn in_old(op: usize) -> usize {
-    if LAST_TOLD < op {
-        return op - 5;
-    }
-    if LAST_OLD < op {
-        return op - 6;
-    }
-    op
-}
-
-// The collections: one, from the list, with a threshold.
-fn gather(
-    geo: Geometry,
-    numbers: Numbers,
-    op: usize,
-    a: usize,
-    b: usize,
-    tab: &mut [u32],
-    used: &mut [u8],
-    bytes: &mut [u8],
-    marks: &mut [u8],
-    counts: &mut [u32],
-    fuse: &mut u64,
-    bad: &[u8],
-    page: &mut [u8],
-    seen: &mut [u8],
-    order: &mut [u32],
-) -> i64 {
-    if op == 8 {
-        return ftl::collect(
-            geo, numbers, bad, tab, used, bytes, marks, counts, fuse, page, seen, order,
-        );
-    }
-    if op == 9 {
-        return ftl::collect_list(
-            geo, numbers, a, bad, tab, used, bytes, marks, counts, fuse, page, seen, order,
-        );
-    }
-    ftl::collect_threshold(
-        geo, numbers, a as u64, b, bad, tab, used, bytes, marks, counts, fuse, page, seen, order,
-    )
-}
-
-// The call of steps 4 to 12, with these choices. The buffer is a write's bytes, a read's room, an encoding's room and a restore's file.
-fn call(
-    geo: Geometry,
-    numbers: Numbers,
-    queueing: Queueing,
-    op: usize,
-    a: usize,
-    b: usize,
-    tab: &mut [u32],
-    used: &mut [u8],
-    bytes: &mut [u8],
-    marks: &mut [u8],
-    counts: &mut [u32],
-    fuse: &mut u64,
-    bad: &[u8],
-    buffer: &mut [u8],
-    page: &mut [u8],
-    seen: &mut [u8],
-    order: &mut [u32],
-    taken: &mut [u8],
-) -> i64 {
-    match op {
-        4 => ftl::format(geo, bytes, marks, counts, fuse),
-        5 => ftl::open(geo, tab, used),
-        6 => ftl::read(geo, a, b, tab, used, bytes, buffer, seen),
-        7 => ftl::write(
-            geo, numbers, a, b, buffer, bad, tab, used, bytes, marks, counts, fuse, page, seen,
-        ),
-        11 => ftl::encode(geo, tab, used, buffer, seen),
-        12 => ftl::restore(geo, queueing, buffer, tab, used, taken),
-        _ => gather(
-            geo, numbers, op, a, b, tab, used, bytes, marks, counts, fuse, bad, page, seen, order,
-        ),
+impl Tally {
+    fn count(&mut self, played: Played) {
+        self.cases = self.cases.wrapping_add(1);
+        self.calls = self.calls.wrapping_add(played.calls);
+        self.differences = self.differences.wrapping_add(u64::from(played.differs));
     }
 }
 
-// The call of a step, and the CRC after it.
-fn called(
-    geo: Geometry,
-    step: Step,
-    tab: &mut [u32],
-    used: &mut [u8],
-    bytes: &mut [u8],
-    marks: &mut [u8],
-    counts: &mut [u32],
-    fuse: &mut u64,
-    bad: &[u8],
-    buffer: &mut [u8],
-    page: &mut [u8],
-    seen: &mut [u8],
-    order: &mut [u32],
-    taken: &mut [u8],
-) -> Found {
-    let answer = call(
-        geo,
-        numbers_in(step.op),
-        queueing_in(step.op),
-        in_old(step.op),
-        step.a,
-        step.b,
-        tab,
-        used,
-        bytes,
-        marks,
-        counts,
-        fuse,
-        bad,
-        buffer,
-        page,
-        seen,
-        order,
-        taken,
-    );
-    let crc = digest(
-        tab, used, bytes, marks, counts, *fuse, bad, buffer, page, seen, order, taken,
-    );
-    Found { answer, crc }
-}
-
-// An answer's number without its sign.
-fn magnitude(r: i64) -> u64 {
-    if r < 0 {
-        return (-(r + 1)) as u64 + 1;
-    }
-    r as u64
-}
-
-fn refused(r: i64) -> usize {
-    if r < 0 {
-        return 1;
-    }
-    0
-}
-
-fn say_answer(rt: &impl Print, sign: usize, x: u64) {
-    if sign != 0 {
-        say(rt, b"-");
-    }
-    say_number(rt, x);
-}
-
-// The line of a difference.
-fn tell(rt: &impl Print, case: u64, call: u64, step: Step, found: Found) {
-    say(rt, b"case ");
-    say_number(rt, case);
-    say(rt, b", call ");
-    say_number(rt, call);
-    say(rt, b": expected ");
-    say_answer(rt, step.c, step.d as u64);
-    say(rt, b" and ");
-    say_number(rt, step.e as u64);
-    say(rt, b", found ");
-    say_answer(rt, refused(found.answer), magnitude(found.answer));
-    say(rt, b" and ");
-    say_number(rt, found.crc as u64);
-    say(rt, b"\n");
-}
-
-fn agrees(step: Step, found: Found) -> bool {
-    if refused(found.answer) != step.c {
-        return false;
-    }
-    if magnitude(found.answer) != step.d as u64 {
-        return false;
-    }
-    found.crc as u64 == step.e as u64
-}
-
-// A call's answer and CRC are the stored ones, or there is a difference to tell.
-fn judge(rt: &impl Print, case: u64, call: u64, step: Step, found: Found, next: usize) -> Told {
-    if agrees(step, found) {
-        return Told::On(next, 1);
-    }
-    tell(rt, case, call, step, found);
-    Told::Differs(next)
-}
-
-// The bad list, the buffer and the scratch lent as long as the case says.
-fn lend_rest(
-    geo: Geometry,
-    step: Step,
-    lens: &[usize; 11],
-    tab: &mut [u32],
-    used: &mut [u8],
-    bytes: &mut [u8],
-    marks: &mut [u8],
-    counts: &mut [u32],
-    fuse: &mut u64,
-    bad: &[u8],
-    buffer: &mut [u8],
-    page: &mut [u8],
-    seen: &mut [u8],
-    order: &mut [u32],
-    taken: &mut [u8],
-) -> Found {
-    let bad_len = least(lens[5], bad.len());
-    let buffer_len = least(lens[6], buffer.len());
-    let page_len = least(lens[7], page.len());
-    let seen_len = least(lens[8], seen.len());
-    let order_len = least(lens[9], order.len());
-    let taken_len = least(lens[10], taken.len());
-    called(
-        geo,
-        step,
-        tab,
-        used,
-        bytes,
-        marks,
-        counts,
-        fuse,
-        &bad[0..bad_len],
-        &mut buffer[0..buffer_len],
-        &mut page[0..page_len],
-        &mut seen[0..seen_len],
-        &mut order[0..order_len],
-        &mut taken[0..taken_len],
-    )
-}
-
-// The tables and the flash lent as long as the case says, and then the rest.
-fn lend(
-    geo: Geometry,
-    step: Step,
-    lens: &[usize; 11],
-    tab: &mut [u32],
-    used: &mut [u8],
-    bytes: &mut [u8],
-    marks: &mut [u8],
-    counts: &mut [u32],
-    fuse: &mut u64,
-    bad: &[u8],
-    buffer: &mut [u8],
-    page: &mut [u8],
-    seen: &mut [u8],
-    order: &mut [u32],
-    taken: &mut [u8],
-) -> Found {
-    let tab_len = least(lens[0], tab.len());
-    let used_len = least(lens[1], used.len());
-    let bytes_len = least(lens[2], bytes.len());
-    let marks_len = least(lens[3], marks.len());
-    let counts_len = least(lens[4], counts.len());
-    lend_rest(
-        geo,
-        step,
-        lens,
-        &mut tab[0..tab_len],
-        &mut used[0..used_len],
-        &mut bytes[0..bytes_len],
-        &mut marks[0..marks_len],
-        &mut counts[0..counts_len],
-        fuse,
-        bad,
-        buffer,
-        page,
-        seen,
-        order,
-        taken,
-    )
-}
-
-fn put_word(s: &mut [u32], i: usize, v: usize, next: usize) -> Told {
-    if s.len() <= i {
-        return Told::Malformed;
-    }
-    if 4294967295 < v {
-        return Told::Malformed;
-    }
-    s[i] = v as u32;
-    Told::On(next, 0)
-}
-
-fn put_byte(s: &mut [u8], i: usize, v: usize, next: usize) -> Told {
-    if s.len() <= i {
-        return Told::Malformed;
-    }
-    if 255 < v {
-        return Told::Malformed;
-    }
-    s[i] = v as u8;
-    Told::On(next, 0)
-}
-
-// The room for slice j.
-fn room_of(j: usize) -> usize {
-    match j {
-        0 => 2048,
-        2 => 16384,
-        4 | 5 | 9 => 256,
-        6 => 4096,
-        _ => 512,
+impl fmt::Display for Tally {
+    fn fmt<W: fmt::Write>(&self, f: &mut fmt::Formatter<W>) -> fmt::Result {
+        let Tally {
+            cases,
+            calls,
+            differences,
+        } = *self;
+        write!(f, "{cases} cases, {calls} calls, {differences} differences")
     }
 }
 
-fn put_length(lens: &mut [usize; 11], j: usize, k: usize, next: usize) -> Told {
-    if 11 <= j {
-        return Told::Malformed;
-    }
-    if room_of(j) < k {
-        return Told::Malformed;
-    }
-    lens[j] = k;
-    Told::On(next, 0)
-}
-
-// v at place i of slice j.
-fn poke(
-    j: usize,
-    i: usize,
-    v: usize,
-    next: usize,
-    tab: &mut [u32],
-    used: &mut [u8],
-    bytes: &mut [u8],
-    marks: &mut [u8],
-    counts: &mut [u32],
-    bad: &mut [u8],
-    buffer: &mut [u8],
-    page: &mut [u8],
-    seen: &mut [u8],
-    order: &mut [u32],
-    taken: &mut [u8],
-) -> Told {
-    match j {
-        0 => put_word(tab, i, v, next),
-        1 => put_byte(used, i, v, next),
-        2 => put_byte(bytes, i, v, next),
-        3 => put_byte(marks, i, v, next),
-        4 => put_word(counts, i, v, next),
-        5 => put_byte(bad, i, v, next),
-        6 => put_byte(buffer, i, v, next),
-        7 => put_byte(page, i, v, next),
-        8 => put_byte(seen, i, v, next),
-        9 => put_word(order, i, v, next),
-        10 => put_byte(taken, i, v, next),
-        _ => Told::Malformed,
-    }
-}
-
-// The step at a place.
-fn turn(
-    rt: &impl Print,
-    case: u64,
-    calls: u64,
-    geo: Geometry,
-    xs: &[u8],
-    at: usize,
-    lens: &mut [usize; 11],
-    tab: &mut [u32; 2048],
-    used: &mut [u8; 512],
-    bytes: &mut [u8; 16384],
-    marks: &mut [u8; 512],
-    counts: &mut [u32; 256],
-    fuse: &mut u64,
-    bad: &mut [u8; 256],
-    buffer: &mut [u8; 4096],
-    page: &mut [u8; 512],
-    seen: &mut [u8; 512],
-    order: &mut [u32; 256],
-    taken: &mut [u8; 512],
-) -> Told {
-    let Next::Found(step, next) = read_step(xs, at) else {
-        return Told::Malformed;
-    };
-    if step.op == END {
-        return Told::Ended(next);
-    }
-    if step.op == LENGTH {
-        return put_length(lens, step.a, step.b, next);
-    }
-    if step.op == POKE {
-        return poke(
-            step.a, step.b, step.c, next, tab, used, bytes, marks, counts, bad, buffer, page, seen,
-            order, taken,
-        );
-    }
-    if step.op == FUSE {
-        *fuse = step.a as u64;
-        return Told::On(next, 0);
-    }
-    let found = lend(
-        geo, step, lens, tab, used, bytes, marks, counts, fuse, bad, buffer, page, seen, order,
-        taken,
-    );
-    judge(rt, case, calls, step, found, next)
-}
-
-// A case that differs is passed.
-fn passed(xs: &[u8], at: usize, calls: u64) -> Played {
-    let Place::At(next) = skip(xs, at) else {
-        return Played::Malformed;
-    };
-    Played::Whole(next, calls, 1)
-}
-
-// The steps of a case from zeroed memory.
-fn play(rt: &impl Print, case: u64, geo: Geometry, xs: &[u8], first: usize) -> Played {
-    let mut lens = [0usize; 11];
-    let mut tab = [0u32; 2048];
-    let mut used = [0u8; 512];
-    let mut bytes = [0u8; 16384];
-    let mut marks = [0u8; 512];
-    let mut counts = [0u32; 256];
-    let mut fuse = ENDLESS;
-    let mut bad = [0u8; 256];
-    let mut buffer = [0u8; 4096];
-    let mut page = [0u8; 512];
-    let mut seen = [0u8; 512];
-    let mut order = [0u32; 256];
-    let mut taken = [0u8; 512];
-    let mut at = first;
-    let mut calls = 0u64;
-    let mut left = xs.len();
-    while 0 < left {
-        left -= 1;
-        let told = turn(
-            rt,
-            case,
-            wrapping_add_u64(calls, 1),
-            geo,
-            xs,
-            at,
-            &mut lens,
-            &mut tab,
-            &mut used,
-            &mut bytes,
-            &mut marks,
-            &mut counts,
-            &mut fuse,
-            &mut bad,
-            &mut buffer,
-            &mut page,
-            &mut seen,
-            &mut order,
-            &mut taken,
-        );
-        match told {
-            Told::On(next, made) => {
-                at = next;
-                calls = wrapping_add_u64(calls, made);
-            }
-            Told::Ended(next) => return Played::Whole(next, calls, 0),
-            Told::Differs(next) => return passed(xs, next, wrapping_add_u64(calls, 1)),
-            Told::Malformed => return Played::Malformed,
-        }
-    }
-    Played::Malformed
-}
-
-// A case: its geometry, and then its steps.
-fn play_case(rt: &impl Print, case: u64, xs: &[u8], at: usize) -> Played {
-    let mut row = [0usize; 6];
-    let Place::At(first) = read_row(xs, at, 6, &mut row) else {
-        return Played::Malformed;
-    };
-    let geo = Geometry {
-        n: row[0],
-        p: row[1],
-        s: row[2],
-        w: row[3],
-        e: row[4],
-        limit: row[5],
-    };
-    play(rt, case, geo, xs, first)
-}
-
-fn tell_malformed(rt: &impl Print, case: u64) {
-    say(rt, b"malformed in case ");
-    say_number(rt, case);
-    say(rt, b"\n");
-}
-
-// Every case of the file.
+// Every case of the file, up to one that is malformed. A line that can't be written is passed over.
 fn play_all(rt: &impl Print, xs: &[u8]) -> Tally {
-    let mut cases = 0u64;
-    let mut calls = 0u64;
-    let mut differences = 0u64;
+    let mut tally = Tally::default();
     let mut at = 0;
-    let mut left = xs.len();
-    while 0 < left {
-        left -= 1;
-        if xs.len() <= at {
-            return Tally {
-                cases,
-                calls,
-                differences,
-            };
+    for _ in 0..xs.len() {
+        if at >= xs.len() {
+            break;
         }
-        let case = wrapping_add_u64(cases, 1);
-        let Played::Whole(next, made, differs) = play_case(rt, case, xs, at) else {
-            tell_malformed(rt, case);
-            return Tally {
-                cases,
-                calls,
-                differences,
-            };
+        let case = tally.cases.wrapping_add(1);
+        let Some(played) = play_case(rt, case, xs, at) else {
+            let _ = println!(rt; "malformed in case {case}");
+            break;
         };
-        at = next;
-        cases = case;
-        calls = wrapping_add_u64(calls, made);
-        differences = wrapping_add_u64(differences, differs);
+        tally.count(played);
+        at = played.next;
     }
-    Tally {
-        cases,
-        calls,
-        differences,
-    }
+    tally
 }
 
 // Reads until the buffer is full, the input ends or a read fails, and answers how many bytes stand at its front.
@@ -781,14 +500,9 @@ fn main(rt: HostRuntime) {
     let mut input = [0u8; 262145];
     let length = read_full(&mut rt.stdin(), &mut input);
     if 262144 < length {
-        say(&rt, b"too long\n");
+        let _ = println!(rt; "too long");
         return;
     }
-    let t = play_all(&rt, &input[..length]);
-    say_number(&rt, t.cases);
-    say(&rt, b" cases, ");
-    say_number(&rt, t.calls);
-    say(&rt, b" calls, ");
-    say_number(&rt, t.differences);
-    say(&rt, b" differences\n");
+    let tally = play_all(&rt, &input[..length]);
+    let _ = println!(rt; "{tally}");
 }

@@ -1,14 +1,18 @@
--- `after_words` meets its contract: what is laid in at the front is what the CRC is taken over.
-use Rattle.std.proofs.Common.{ℕ, ◌-◌, ◌*◌, length, take, ap, ◌∙◌, arith}
+-- `after_words` meets its contract: one word more is taken in after those before it.
+use Rattle.std.proofs.Common.{ap, ◌∙◌}
 use Rattle.crc32.specs.Crc32.{after}
-use Rattle.model.specs.Checkpoint.{words}
-use Rattle.model.proofs.Bytes.{length-words}
-use Rattle.replay.proofs.Laid.{laid}
+use Rattle.checkpoint.proofs.Bytes.{word_is}
+use Rattle.replay.proofs.Joined.{no_words, next_word, all_words}
 use Rattle.replay.proofs.after_words.Goals as goal
 
+pub loop-w-init : goal.loop-w-init
+loop-w-init c = no_words c.args.state c.ranges.state.fits
+
+pub loop-w-preserved : goal.loop-w-preserved
+loop-w-preserved c =
+    c.update-crc.ensures
+    ∙ ap (after c.loop-w.crc) (c.to_le_bytes.ensures ∙ word_is _)
+    ∙ next_word c.args.state c.args.ws.now c.loop-w.w-index c.ranges.state.fits c.loop-w-test.true c.loop-w.invariant
+
 pub returns : goal.returns
-returns c h =
-    let a = c.args in
-    let z : ℕ = 4 * length a.ws.now - 0 in
-    c.update.ensures
-    ∙ ap (after a.state) (ap (take z) c.put_words.ensures ∙ laid (words a.ws.now) _ z (omega (arith, length-words a.ws.now)))
+returns c = c.loop-w.invariant ∙ all_words c.args.state c.args.ws.now c.loop-w.w-index c.loop-w-test.false
