@@ -1,6 +1,5 @@
 -- The head's six fields, and the file: the body laid in, the head before it, the sum between them.
-use Prim.Native.Nat.{ℕ, ◌+◌, ◌*◌, ◌-◌, ◌≤◌}
-use native.Mathlib.Nat.{sub-zero}
+use Prim.Native.Nat.{ℕ, ◌+◌, ◌*◌, ◌≤◌}
 use native.Mathlib.Omega.{arith}
 use mathlib.Core.Path.{◌≡◌, refl, sym, ap, ap₂, ◌∙◌}
 use mathlib.Core.List.{List, ◌++◌, append_assoc}
@@ -9,7 +8,7 @@ use lib.Seq.{take_at, drop_at, take-take, take-add, drop-drop, length-take-le}
 use Rattle.crc32.specs.Crc32.{crc32}
 use Rattle.model.specs.declared.Geometry.{Geometry}
 use Rattle.model.specs.Lists.{splice}
-use Rattle.model.specs.Tables.{at, region, view, o_alloc, tab_words}
+use Rattle.model.specs.Tables.{at, view, o_alloc}
 use Rattle.model.specs.Checkpoint.{magic, version, word, long, words, head, file, sealed}
 use Rattle.model.proofs.Bytes.{length-word, length-words}
 use Rattle.model.proofs.Sealed.{length-head, length-file}
@@ -69,9 +68,9 @@ module _ (G : Geometry) (alloc : ℕ) (body d₀ : List ℕ) (fits : 44 + 4 * le
   long₂ = ap length e₂ ∙ lay_length d₁ H 0 (omega (arith, length-head G alloc, long₁)) ∙ long₁
 
   -- what is summed
-  summed : (size : ℕ) → size ≡ 44 + 4 * length body → take 40 (take (size - 0) d₂) ++ drop 44 (take (size - 0) d₂) ≡ H ++ W
+  summed : (size : ℕ) → size ≡ 44 + 4 * length body → take 40 (take size d₂) ++ drop 44 (take size d₂) ≡ H ++ W
   summed size s =
-      let q : size - 0 ≡ 44 + length W = omega (arith, long_W) in
+      let q : size ≡ 44 + length W = omega (arith, long_W) in
       let part : drop 44 (take (44 + length W) d₂) ≡ take (length W) (drop 44 d₂) =
       ap (drop 44) (take-add 44 (length W) d₂) ∙ drop_at (take 44 d₂) (take (length W) (drop 44 d₂)) 44 (length-take-le 44 d₂ (omega (arith, long₂))) in
       ap (λ k. take 40 (take k d₂) ++ drop 44 (take k d₂)) q
@@ -80,7 +79,7 @@ module _ (G : Geometry) (alloc : ℕ) (body d₀ : List ℕ) (fits : 44 + 4 * le
       (part ∙ ap (take (length W)) behind₂ ∙ take_at W rest (length W) refl)
 
   -- the sum laid in
-  pub encoded : (size x : ℕ) → size ≡ 44 + 4 * length body → x ≡ crc32 (take 40 (take (size - 0) d₂) ++ drop 44 (take (size - 0) d₂))
+  pub encoded : (size x : ℕ) → size ≡ 44 + 4 * length body → x ≡ crc32 (take 40 (take size d₂) ++ drop 44 (take size d₂))
       → splice 40 (word x) d₂ ≡ splice 0 (file G alloc body) d₀
   unfolding splice file rest
   encoded size x s e =
@@ -93,9 +92,6 @@ module _ (G : Geometry) (alloc : ℕ) (body d₀ : List ℕ) (fits : 44 + 4 * le
       ∙ ap₂ (λ z k. H ++ word z ++ W ++ drop k d₀) (e ∙ ap crc32 (summed size s)) m
 
 -- the body of a file of tables: the first words of the tables
-pub body_is : (G : Geometry) (w u : List ℕ) → file G (at w (o_alloc G)) (region 0 (G.e + G.n - 0) w) ≡ sealed G (view G w u)
+pub body_is : (G : Geometry) (w u : List ℕ) → file G (at w (o_alloc G)) (take (G.e + G.n) w) ≡ sealed G (view G w u)
 unfolding view
-body_is G w u = ap (file G (at w (o_alloc G))) (ap (λ k. take k w) (sub-zero (G.e + G.n)) ∙ take-add G.e G.n w)
-
-pub body_long : (G : Geometry) (w : List ℕ) → length w ≡ tab_words G → length (region 0 (G.e + G.n - 0) w) ≡ G.e + G.n
-body_long G w h = ap (λ k. length (take k w)) (sub-zero (G.e + G.n)) ∙ length-take-le (G.e + G.n) w (omega arith)
+body_is G w u = ap (file G (at w (o_alloc G))) (take-add G.e G.n w)

@@ -4,26 +4,23 @@ use native.Mathlib.Nat.{add-zero}
 use native.Mathlib.Numerals.{add-one}
 use native.Mathlib.Omega.{arith}
 use mathlib.Core.Path.{◌≡◌, refl, sym, ap, ap₂, ◌∙◌}
-use mathlib.Core.Bool.{true, false}
-use mathlib.Core.List.{List, [], ◌∷◌, ◌++◌, append_assoc, append-nil}
-use lib.ListN.{length, take, drop, set, replicate, length-append, length-take, length-drop, length-replicate, replicate-append-replicate, take-append-drop, drop_of_length-le}
-use lib.Seq.{take_at, drop_at, take-suc, drop-drop, drop-append-add, set_split, sets-eq, length-take-le}
-use borrow.Author.Tests.{le-leb, lt-leb}
+use mathlib.Core.Bool.{◌&&◌}
+use mathlib.Core.List.{List, [], ◌∷◌, ◌++◌, append_assoc}
+use lib.ListN.{length, take, drop, set, replicate, length-append, length-take, length-drop, length-replicate, take-append-drop}
+use borrow.Rule.Slice.PartMut.{put_mid}
+use lib.Seq.{take_all, take_at, drop_at, take-suc, drop-drop, drop-append-add, set_split, length-take-le}
+use lib.Dec.{leb}
+use Rattle.std.specs.List.{list_all, range_with_len}
+use Rattle.std.proofs.lemmas.List.{take_more_set}
 use Rattle.model.specs.Lists.{splice, up_to}
-use Rattle.model.specs.Tables.{at}
+use Rattle.model.specs.Tables.{at, region}
 use Rattle.model.specs.Checkpoint.{word, words, word_at, words_at}
 use Rattle.model.proofs.Bytes.{length-words, length-read, words_append}
 
--- nothing, and a list as long as the whole
+-- nothing
 pub lay_none : (d : List ℕ) (k : ℕ) → splice k [] d ≡ d
 unfolding splice
 lay_none d k = ap (λ j. take k d ++ drop j d) (add-zero k) ∙ take-append-drop k d
-
-pub lay_whole : (d a : List ℕ) → length a ≡ length d → splice 0 a d ≡ a
-unfolding splice
-lay_whole d a e =
-    let l : length d ≤ 0 + length a = omega arith in
-    ap (λ z. a ++ z) (drop_of_length-le d l) ∙ append-nil a
 
 pub lay_length : (d a : List ℕ) (k : ℕ) → k + length a ≤ length d → length (splice k a d) ≡ length d
 unfolding splice
@@ -33,6 +30,21 @@ lay_length d a k h = simp (length-append, length-take, length-drop) (omega arith
 pub lay_from : (d a : List ℕ) (k : ℕ) → k ≤ length d → drop k (splice k a d) ≡ a ++ drop (k + length a) d
 unfolding splice
 lay_from d a k h = drop_at (take k d) (a ++ drop (k + length a) d) k (length-take-le k d h)
+
+-- what is written into a part of the slice
+pub lay_part : (d a : List ℕ) (i j : ℕ) → j ≡ i + length a → put_mid i (j - i) d a ≡ splice i a d
+unfolding splice
+lay_part d a i j e =
+    let k : i + (j - i) ≡ i + length a = omega arith in
+    ap (λ z. take i d ++ (a ++ z)) (drop-drop (j - i) i d ∙ ap (λ m. drop m d) k)
+
+-- a part of the slice filled
+pub lay_fill : (d : List ℕ) (i j n v : ℕ) {a : List ℕ} → i + n ≡ j → j ≤ length d → a ≡ replicate (length (region i (j - i) d)) v
+    → put_mid i (j - i) d a ≡ splice i (replicate n v) d
+lay_fill d i j n v {a} e h ea =
+    let l : length (region i (j - i) d) ≡ n = simp (length-take, length-drop) (omega arith) in
+    let q : a ≡ replicate n v = ea ∙ ap (λ k. replicate k v) l in
+    lay_part d a i j (omega (arith, ap length q, length-replicate n v)) ∙ ap (λ z. splice i z d) q
 
 -- b right behind a
 pub lay_next : (d a b : List ℕ) (k m : ℕ) {x : List ℕ} → x ≡ splice k a d → k ≤ length d → k + length a ≡ m → splice m b x ≡ splice k (a ++ b) d
@@ -68,23 +80,6 @@ pub lay_store : (d a : List ℕ) (k i v : ℕ) {x : List ℕ} → x ≡ splice k
 lay_store d a k i v {x} e q h =
     lay_one x i v (rw (e, lay_length d a k (omega arith)) h) ∙ lay_next d a (v ∷ []) k i e (omega arith) q
 
--- one turn of a fill
-pub fill_more : (d : List ℕ) (k i v : ℕ) {x : List ℕ} → x ≡ splice k (replicate i v) d → k + i < length d → set x (k + i) v ≡ splice k (replicate (i + 1) v) d
-fill_more d k i v e h =
-    let q : k + length (replicate i v) ≡ k + i = ap (λ j. k + j) (length-replicate i v) in
-    lay_store d (replicate i v) k (k + i) v e q h ∙ ap (λ r. splice k r d) (replicate-append-replicate i 1 v)
-
--- four stores are a word laid in
-pub four_stores : (d : List ℕ) (k x₀ x₁ x₂ x₃ : ℕ) → k + 4 ≤ length d
-    → set (set (set (set d k x₀) (k + 1) x₁) (k + 2) x₂) (k + 3) x₃ ≡ splice k (x₀ ∷ x₁ ∷ x₂ ∷ x₃ ∷ []) d
-unfolding splice
-four_stores d k x₀ x₁ x₂ x₃ h =
-    let e₁ : k + 1 ≡ suc k = omega arith in
-    let e₂ : k + 2 ≡ suc (suc k) = omega arith in
-    let e₃ : k + 3 ≡ suc (suc (suc k)) = omega arith in
-    let w : List ℕ = x₀ ∷ x₁ ∷ x₂ ∷ x₃ ∷ [] in
-    rw (e₁, e₂, e₃) (sets-eq w d k h ∙ append_assoc (take k d) w (drop (k + 4) d))
-
 -- one turn of `put_words`
 words_more : (ws : List ℕ) (i : ℕ) → i < length ws → words (take i ws) ++ word (at ws i) ≡ words (take (i + 1) ws)
 unfolding words word
@@ -100,6 +95,9 @@ module _ (d ws : List ℕ) (k i : ℕ) {x : List ℕ} (e : x ≡ splice k (words
       let q : length (words (take i ws)) ≡ 4 * i = length-words (take i ws) ∙ ap (λ j. 4 * j) (length-take-le i ws (omega arith)) in
       lay_next d (words (take i ws)) (word (at ws i)) k (k + 4 * i) e l (ap (λ j. k + j) q) ∙ ap (λ r. splice k r d) (words_more ws i h)
 
+  pub put_end : i ≡ length ws → x ≡ splice k (words ws) d
+  put_end h = e ∙ ap (λ w. splice k (words w) d) (take_all i ws (omega arith))
+
 -- words read in two parts
 pub words_split : (m n : ℕ) (s : List ℕ) (i : ℕ) → words_at (m + n) s i ≡ words_at m s i ++ words_at n s (i + 4 * m)
 unfolding words_at
@@ -113,40 +111,26 @@ words_split (suc m) n s i =
     ap (λ k. words_at k s i) p
     ∙ ap (λ r. word_at s i ∷ r) (words_split m n s (i + 4) ∙ ap (λ j. words_at m s (i + 4) ++ words_at n s j) q)
 
-one_word : (s : List ℕ) (j : ℕ) → words_at 1 s j ≡ word_at s j ∷ []
+words_push : (i : ℕ) (s : List ℕ) (j : ℕ) → words_at (i + 1) s j ≡ words_at i s j ++ (word_at s (j + 4 * i) ∷ [])
 unfolding words_at
-one_word s j = refl
+words_push i s j = words_split i 1 s j
 
--- one turn of `get_words`
-pub get_none : (d s : List ℕ) (j : ℕ) → d ≡ splice 0 (words_at 0 s j) d
-unfolding words_at
-get_none d s j = sym (lay_none d 0)
+-- one turn of `get_words`, and its end
+module _ (s xs : List ℕ) (j i : ℕ) (e : take i xs ≡ words_at i s j) where
+  pub get_more : {v : ℕ} → i < length xs → v ≡ word_at s (j + 4 * i) → take (i + 1) (set xs i v) ≡ words_at (i + 1) s j
+  get_more {v} h q = take_more_set xs i v h ∙ ap₂ (λ a b. a ++ (b ∷ [])) e q ∙ sym (words_push i s j)
 
-pub get_more : (d s : List ℕ) (j i : ℕ) {x : List ℕ} → x ≡ splice 0 (words_at i s j) d → i < length d → set x i (word_at s (j + 4 * i)) ≡ splice 0 (words_at (i + 1) s j) d
-get_more d s j i e h =
-    let q : 0 + length (words_at i s j) ≡ i = omega (arith, length-read i s j) in
-    lay_store d (words_at i s j) 0 i (word_at s (j + 4 * i)) e q h
-    ∙ ap (λ r. splice 0 r d) (ap (λ z. words_at i s j ++ z) (sym (one_word s (j + 4 * i))) ∙ sym (words_split i 1 s j))
+  pub get_end : (d : List ℕ) (k : ℕ) → length xs ≡ k → i ≡ k → xs ++ drop k d ≡ splice 0 (words_at k s j) d
+  unfolding splice
+  get_end d k n h =
+      let whole : xs ≡ words_at k s j = sym (take_all i xs (omega arith)) ∙ e ∙ ap (λ m. words_at m s j) h in
+      let l : k ≡ 0 + length (words_at k s j) = omega (arith, length-read k s j) in
+      ap₂ (λ a m. a ++ drop m d) whole l
 
--- one turn of `up_to`: what is left of the words decides
-module _ (p k : ℕ) (s : List ℕ) (j i : ℕ) where
-  one_less : i < k → words_at (k - i) s (j + 4 * i) ≡ word_at s (j + 4 * i) ∷ words_at (k - (i + 1)) s (j + 4 * (i + 1))
-  unfolding words_at
-  one_less h =
-      let e : k - i ≡ suc (k - (i + 1)) = omega arith in
-      let n : j + 4 * i + 4 ≡ j + 4 * (i + 1) = omega arith in
-      ap (λ m. words_at m s (j + 4 * i)) e ∙ ap (λ m. word_at s (j + 4 * i) ∷ words_at (k - (i + 1)) s m) n
-
-  pub up_more : i < k → word_at s (j + 4 * i) ≤ p → up_to p (words_at (k - i) s (j + 4 * i)) ≡ up_to p (words_at (k - (i + 1)) s (j + 4 * (i + 1)))
-  unfolding up_to
-  up_more h l = rw (one_less h, le-leb _ _ l)
-
-  pub up_fails : i < k → p < word_at s (j + 4 * i) → up_to p (words_at (k - i) s (j + 4 * i)) ≡ false
-  unfolding up_to
-  up_fails h l = rw (one_less h, lt-leb _ _ l)
-
-  pub up_end : k ≤ i → up_to p (words_at (k - i) s (j + 4 * i)) ≡ true
-  unfolding up_to words_at
-  up_end h =
-      let e : k - i ≡ 0 = omega arith in
-      rw e
+-- the words are tested one by one
+pub up_to_tests : (p k : ℕ) (s : List ℕ) (j i : ℕ) → list_all (λ x. leb (word_at s (j + 4 * x)) p) (range_with_len i k) ≡ up_to p (words_at k s (j + 4 * i))
+unfolding up_to words_at
+up_to_tests p zero s j i = refl
+up_to_tests p (suc k) s j i =
+    let n : j + 4 * (i + 1) ≡ j + 4 * i + 4 = omega arith in
+    ap (λ b. leb (word_at s (j + 4 * i)) p && b) (up_to_tests p k s j (i + 1) ∙ ap (λ m. up_to p (words_at k s m)) n)

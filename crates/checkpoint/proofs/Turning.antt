@@ -1,6 +1,6 @@
 -- The turn of one logical page, against the definition's walk over the map.
 use Prim.Native.Nat.{ℕ, zero, suc, ◌+◌, ◌*◌, ◌-◌, ◌≤◌, ◌<◌}
-use native.Mathlib.Nat.{sub-zero}
+use native.Mathlib.Nat.{sub-zero, mul-le-mul}
 use native.Mathlib.Numerals.{add-one}
 use native.Mathlib.Omega.{arith}
 use mathlib.Core.Path.{◌≡◌, sym, ap, ap₂, ◌∙◌, subst}
@@ -14,13 +14,14 @@ use borrow.Author.Tests.{lt-ltb, le-ltb, ne_eqb}
 use Rattle.model.specs.declared.Geometry.{Geometry}
 use Rattle.model.specs.Lists.{bit, occ, zeros}
 use Rattle.model.specs.Numbers.{Good, empty, addr, seg_of, page_of, flat}
-use Rattle.model.specs.Tables.{Tables, at, pages, set_map, view, o_valid, o_lens, o_lists}
+use Rattle.model.specs.declared.Spot.{Spot}
+use Rattle.model.specs.PageMap.{spot}
+use Rattle.model.specs.Tables.{Tables, at, pages, set_map}
 use Rattle.model.specs.Checkpoint.{bare, welcome, settle, settle_all, restored}
 use Rattle.model.proofs.Slots.{same?, less?, below_part, place_inj_seg, place_inj_page}
 use Rattle.model.proofs.Counts.{bit_same, bit_other, occ-replicate}
 use Rattle.model.proofs.Address.{addr_back, addr_inj, addr_some}
 use Rattle.model.proofs.Restore.{Settled, Welcome, welcome_true, settled_one, start}
-use Rattle.model.proofs.View.{valid_at, lens_at, set_valid_lem, set_lens_lem, set_lists_lem}
 use Rattle.checkpoint.specs.Turns.{takes, listed, midst, ending, Turn}
 
 -- how often x stands in a list, after a store
@@ -123,6 +124,14 @@ walk_none : (G : Geometry) (l : ℕ) (m : List ℕ) (t : Tables) → length m �
 unfolding settle_all
 walk_none G l m t h = ap (λ ws. settle_all G l ws t) (drop_of_length-le m h)
 
+-- what the stores need, of a page that is taken
+pub record Room (G : Geometry) (t : Tables) (x : Spot) : Type 0 where
+  pub seg : x.segment < G.n
+  pub place : x.segment * G.p + x.page < pages G
+  pub few : pages G ≤ 67107840
+  pub valid : at t.valid x.segment < G.p
+  pub lens : at t.lens x.segment < G.p
+
 -- what a turn gives: the next turn's facts, and that the walk still ends alike
 abbrev pub Onward : Geometry → ℕ → (t t' : Tables) → List ℕ → Type 0
 Onward G l t t' s = (Turn G (l + 1) t' s) × (ending G (l + 1) t' ≡ ending G l t)
@@ -157,6 +166,17 @@ module _ (G : Geometry) (K : Good G) (l : ℕ) (t : Tables) (s : List ℕ) (T : 
       room_lens : at t.lens (seg_of G a) < G.p
       room_lens = omega (arith, room_valid, T.settled.exact (seg_of G a))
 
+      pub room : (x : Spot) → x ≡ spot (seg_of G a) (page_of G a) → Room G t x
+      room x e =
+          rw e
+          (record {
+            seg = good.seg;
+            place = below_part G.p good.seg (omega (arith, good.page));
+            few = mul-le-mul K.n≤ K.p≤;
+            valid = room_valid;
+            lens = room_lens;
+          })
+
       after : midst G (l + 1) (listed G l (seg_of G a) t) ≡ settle G l a (midst G l t)
       after =
           ap (λ z. set_map z (settle G l a (midst G l t)))
@@ -180,16 +200,16 @@ module _ (G : Geometry) (K : Good G) (l : ℕ) (t : Tables) (s : List ℕ) (T : 
         ap (settle_all G (l + 1) (drop (l + 1) t.map)) after ∙ sym (rw (sym (test a) ∙ yes) at walked),
       )
 
-      -- the code's segment and page, and its tables
-      pub turn-taken : {g k : ℕ} {t' : Tables} → g ≡ seg_of G a → k ≡ page_of G a → t' ≡ listed G l g t → Onward G l t t' (set s (g * G.p + k) 1)
-      turn-taken eg ek et = rw (et, eg, ek) listed_on
+      pub turn_taken : (x : Spot) → x ≡ spot (seg_of G a) (page_of G a) → (t' : Tables) → t' ≡ listed G l x.segment t
+          → Onward G l t t' (set s (x.segment * G.p + x.page) 1)
+      turn_taken x e t' et = rw (et, e) listed_on
 
     before : midst G (l + 1) (set_map (set t.map l empty) t) ≡ midst G l t
     before = ap (λ z. set_map z t) (no_word t.map G.e l empty T.words hl)
 
-    passed_on : takes G a t s ≡ false → Onward G l t (set_map (set t.map l empty) t) s
+    pub turn_passed : takes G a t s ≡ false → Onward G l t (set_map (set t.map l empty) t) s
     unfolding ending Marks
-    passed_on not = (
+    turn_passed not = (
       record {
         words = length-set t.map l empty ∙ T.words;
         settled =
@@ -200,43 +220,6 @@ module _ (G : Geometry) (K : Good G) (l : ℕ) (t : Tables) (s : List ℕ) (T : 
       },
       ap₂ (settle_all G (l + 1)) (drop-set-lt (l + 1) t.map l empty (omega arith)) before
           ∙ sym (rw (sym (test a) ∙ not) at walked),
-    )
-
-    pub turn_passed : {t' : Tables} → takes G a t s ≡ false → t' ≡ set_map (set t.map l empty) t → Onward G l t t' s
-    turn_passed f et = rw et (passed_on f)
-
--- what the stores need, of segment g and page k
-pub record Room (G : Geometry) (w : List ℕ) (g k : ℕ) : Type 0 where
-  pub seg : g < G.n
-  pub page : k < G.p
-  pub valid : at w (o_valid G + g) < G.p
-  pub lens : at w (o_lens G + g) < G.p
-
-pub room : (G : Geometry) (K : Good G) (l : ℕ) (w u s : List ℕ) (T : Turn G l (view G w u) s) (hl : l < G.e) (a : ℕ) (q : at (view G w u).map l ≡ a)
-    → takes G a (view G w u) s ≡ true → {g k : ℕ} → g ≡ seg_of G a → k ≡ page_of G a → Room G w g k
-room G K l w u s T hl a q t {g} {k} eg ek =
-    let W : Welcome G a (midst G l (view G w u)) = good G K l (view G w u) s T hl a q t in
-    let seg : seg_of G a < G.n = W.seg in
-    rw (eg, ek)
-    (record {
-      seg = seg;
-      page = omega (arith, W.page);
-      valid = omega (arith, room_valid G K l (view G w u) s T hl a q t, valid_at G w u (seg_of G a) 0 seg);
-      lens = omega (arith, room_lens G K l (view G w u) s T hl a q t, lens_at G w u (seg_of G a) 0 seg);
-    })
-
--- the stores that list a page
-pub listing : (G : Geometry) (w u : List ℕ) (l g : ℕ) {m : ℕ} → g < G.n → at w (o_lens G + g) < G.p → m ≡ at w (o_lens G + g)
-    → view G (set (set (set w (o_valid G + g) (at w (o_valid G + g) + 1)) (o_lists G + (g * G.p + m)) l) (o_lens G + g) (at w (o_lens G + g) + 1)) u
-    ≡ listed G l g (view G w u)
-listing G w u l g hg hm e =
-    rw (
-      e,
-      set_lens_lem G _ u g _ hg,
-      set_lists_lem G _ u (g * G.p + at w (o_lens G + g)) _ (below_part G.p hg hm),
-      set_valid_lem G w u g _ hg,
-      ← lens_at G w u g 0 hg,
-      ← valid_at G w u g 0 hg,
     )
 
 -- the words that a file without a reason lays in: the first turn, and what the walk ends as
@@ -260,21 +243,19 @@ module _ (G : Geometry) (K : Good G) (M F : List ℕ) (a : ℕ) (lm : length M �
   unfolding ending restored
   ending_start = ap (settle_all G 0 M) from
 
--- the loop over the turns, so many logical pages left: the facts of the next turn, and the walk ends as it did from the start
-abbrev pub Walked : Geometry → ℕ → (t₀ t : Tables) → List ℕ → Type 0
-Walked G left t₀ t s = (Turn G (G.e - left) t s) × (ending G (G.e - left) t ≡ ending G 0 t₀)
+-- before the turn of logical page l: its facts, and the walk ends as it did from the start
+pub record Walked (G : Geometry) (l : ℕ) (t₀ t : Tables) (s : List ℕ) : Type 0 where
+  pub turn : Turn G l t s
+  pub ending : ending G l t ≡ ending G 0 t₀
 
-pub walk_more : (G : Geometry) (left : ℕ) (t₀ t t' : Tables) (s s' : List ℕ) → left ≤ G.e → 0 < left
-    → Walked G left t₀ t s → Onward G (G.e - left) t t' s' → Walked G (left - 1) t₀ t' s'
-walk_more G left t₀ t t' s s' h l W O =
-    let n : G.e - left + 1 ≡ G.e - (left - 1) = omega arith in
-    (subst (λ (l : ℕ). Turn G l t' s') n O.0, ap (λ l. ending G l t') (sym n) ∙ O.1 ∙ W.1)
+pub walk_more : (G H : Geometry) (l : ℕ) (t₀ t t' : Tables) (s s' : List ℕ) → H ≡ G → Walked G l t₀ t s → Turn H (l + 1) t' s' → ending H (l + 1) t' ≡ ending H l t
+    → Walked G (l + 1) t₀ t' s'
+walk_more G H l t₀ t t' s s' e W T q = record { turn = rw e at T; ending = (rw e at q) ∙ W.ending }
 
-pub walk_end : (G : Geometry) (left : ℕ) (t₀ t : Tables) (s : List ℕ) → left ≡ 0 → Walked G left t₀ t s → t ≡ ending G 0 t₀
+pub walk_end : (G : Geometry) (l : ℕ) (t₀ t : Tables) (s : List ℕ) → G.e ≡ l → Walked G l t₀ t s → t ≡ ending G 0 t₀
 unfolding ending
-walk_end G left t₀ t s z W =
-    let over : length t.map ≤ G.e - left = omega (arith, W.0.words) in
-    let none : G.e - (G.e - left) ≡ 0 = omega arith in
-    sym (walk_none G (G.e - left) t.map (midst G (G.e - left) t) over
-    ∙ ap (λ z. set_map z t) (ap₂ (λ x k. x ++ replicate k empty) (take_all (G.e - left) t.map over) none ∙ append-nil t.map))
-    ∙ W.1
+walk_end G l t₀ t s e W =
+    let over : length t.map ≤ l = omega (arith, W.turn.words) in
+    let none : G.e - l ≡ 0 = omega arith in
+    sym (walk_none G l t.map (midst G l t) over ∙ ap (λ z. set_map z t) (ap₂ (λ x k. x ++ replicate k empty) (take_all l t.map over) none ∙ append-nil t.map))
+    ∙ W.ending

@@ -1,3 +1,4 @@
 pub mod Laws
 pub mod Formatting
-pub mod Same
+pub mod Lent
+pub mod Tried

@@ -34,15 +34,8 @@ pub extern "C" fn shr_format(
         (lent (recorder [] [] (flash bytes.old marks.old counts.old fuse.old)) [] []))
         (lent (recorder [] [] (flash bytes.new marks.new counts.new fuse.new)) [] []) result }
 {
-    let geo = Geometry {
-        n,
-        p,
-        s,
-        w,
-        e,
-        limit,
-    };
-    ftl::format(geo, bytes, marks, counts, fuse)
+    let geo = Geometry::of(n, p, s, w, e, limit);
+    guard::number(Numbers::Old, ftl::format(geo, bytes, marks, counts, fuse))
 }
 
 // Tables emptied.
@@ -62,15 +55,8 @@ pub extern "C" fn shr_open(
         (lent (recorder tab.old used.old no_flash) [] []))
         (lent (recorder tab.new used.new no_flash) [] []) result }
 {
-    let geo = Geometry {
-        n,
-        p,
-        s,
-        w,
-        e,
-        limit,
-    };
-    ftl::open(geo, tab, used)
+    let geo = Geometry::of(n, p, s, w, e, limit);
+    guard::number(Numbers::Old, ftl::open(geo, tab, used))
 }
 
 // Bytes at a sector, into the front of out.
@@ -95,15 +81,9 @@ pub extern "C" fn shr_read(
         (lent (recorder tab.now used.now (flash bytes.now [] [] 0)) out.old (seen.old ∷ [])))
         (lent (recorder tab.now used.now (flash bytes.now [] [] 0)) out.new (seen.new ∷ [])) result }
 {
-    let geo = Geometry {
-        n,
-        p,
-        s,
-        w,
-        e,
-        limit,
-    };
-    ftl::read(geo, sector, length, tab, used, bytes, out, seen)
+    let geo = Geometry::of(n, p, s, w, e, limit);
+    let answer = ftl::read(geo, sector, length, tab, used, bytes, out, seen);
+    guard::number(Numbers::Old, answer)
 }
 
 // Bytes at a sector, within one page.
@@ -133,30 +113,11 @@ pub extern "C" fn shr_write(
         (lent (recorder tab.old used.old (flash bytes.old marks.old counts.now fuse.old)) [] (page.old ∷ seen.old ∷ [])))
         (lent (recorder tab.new used.new (flash bytes.new marks.new counts.now fuse.new)) [] (page.new ∷ seen.new ∷ [])) result }
 {
-    let geo = Geometry {
-        n,
-        p,
-        s,
-        w,
-        e,
-        limit,
-    };
-    ftl::write(
-        geo,
-        Numbers::Old,
-        sector,
-        len,
-        xs,
-        bad,
-        tab,
-        used,
-        bytes,
-        marks,
-        counts,
-        fuse,
-        page,
-        seen,
-    )
+    let geo = Geometry::of(n, p, s, w, e, limit);
+    let answer = ftl::write(
+        geo, sector, len, xs, bad, tab, used, bytes, marks, counts, fuse, page, seen,
+    );
+    guard::number(Numbers::Old, answer)
 }
 
 // One collection.
@@ -184,28 +145,11 @@ pub extern "C" fn shr_collect(
         (lent (recorder tab.old used.old (flash bytes.old marks.old counts.old fuse.old)) [] (page.old ∷ seen.old ∷ order.old ∷ [])))
         (lent (recorder tab.new used.new (flash bytes.new marks.new counts.new fuse.new)) [] (page.new ∷ seen.new ∷ order.new ∷ [])) result }
 {
-    let geo = Geometry {
-        n,
-        p,
-        s,
-        w,
-        e,
-        limit,
-    };
-    ftl::collect(
-        geo,
-        Numbers::Old,
-        bad,
-        tab,
-        used,
-        bytes,
-        marks,
-        counts,
-        fuse,
-        page,
-        seen,
-        order,
-    )
+    let geo = Geometry::of(n, p, s, w, e, limit);
+    let answer = ftl::collect(
+        geo, bad, tab, used, bytes, marks, counts, fuse, page, seen, order,
+    );
+    guard::number(Numbers::Old, answer)
 }
 
 // Collections from the list, at most m of them counted.
@@ -234,29 +178,11 @@ pub extern "C" fn shr_collect_list(
         (lent (recorder tab.old used.old (flash bytes.old marks.old counts.old fuse.old)) [] (page.old ∷ seen.old ∷ order.old ∷ [])))
         (lent (recorder tab.new used.new (flash bytes.new marks.new counts.new fuse.new)) [] (page.new ∷ seen.new ∷ order.new ∷ [])) result }
 {
-    let geo = Geometry {
-        n,
-        p,
-        s,
-        w,
-        e,
-        limit,
-    };
-    ftl::collect_list(
-        geo,
-        Numbers::Old,
-        m,
-        bad,
-        tab,
-        used,
-        bytes,
-        marks,
-        counts,
-        fuse,
-        page,
-        seen,
-        order,
-    )
+    let geo = Geometry::of(n, p, s, w, e, limit);
+    let answer = ftl::collect_list(
+        geo, m, bad, tab, used, bytes, marks, counts, fuse, page, seen, order,
+    );
+    guard::number(Numbers::Old, answer)
 }
 
 // Collections from the list, unless more pages are free than the threshold.
@@ -286,30 +212,11 @@ pub extern "C" fn shr_collect_threshold(
         (lent (recorder tab.old used.old (flash bytes.old marks.old counts.old fuse.old)) [] (page.old ∷ seen.old ∷ order.old ∷ [])))
         (lent (recorder tab.new used.new (flash bytes.new marks.new counts.new fuse.new)) [] (page.new ∷ seen.new ∷ order.new ∷ [])) result }
 {
-    let geo = Geometry {
-        n,
-        p,
-        s,
-        w,
-        e,
-        limit,
-    };
-    ftl::collect_threshold(
-        geo,
-        Numbers::Old,
-        threshold,
-        m,
-        bad,
-        tab,
-        used,
-        bytes,
-        marks,
-        counts,
-        fuse,
-        page,
-        seen,
-        order,
-    )
+    let geo = Geometry::of(n, p, s, w, e, limit);
+    let answer = ftl::collect_threshold(
+        geo, threshold, m, bad, tab, used, bytes, marks, counts, fuse, page, seen, order,
+    );
+    guard::number(Numbers::Old, answer)
 }
 
 // The same four in the numbers of 02, M-101: 28 where no segment outside the bad list has room, 121 where the device refuses a copy.
@@ -339,30 +246,11 @@ pub extern "C" fn shr_write_told(
         (lent (recorder tab.old used.old (flash bytes.old marks.old counts.now fuse.old)) [] (page.old ∷ seen.old ∷ [])))
         (lent (recorder tab.new used.new (flash bytes.new marks.new counts.now fuse.new)) [] (page.new ∷ seen.new ∷ [])) result }
 {
-    let geo = Geometry {
-        n,
-        p,
-        s,
-        w,
-        e,
-        limit,
-    };
-    ftl::write(
-        geo,
-        Numbers::New, // no room is 28
-        sector,
-        len,
-        xs,
-        bad,
-        tab,
-        used,
-        bytes,
-        marks,
-        counts,
-        fuse,
-        page,
-        seen,
-    )
+    let geo = Geometry::of(n, p, s, w, e, limit);
+    let answer = ftl::write(
+        geo, sector, len, xs, bad, tab, used, bytes, marks, counts, fuse, page, seen,
+    );
+    guard::number(Numbers::New, answer) // no room is 28
 }
 
 #[unsafe(no_mangle)]
@@ -389,28 +277,11 @@ pub extern "C" fn shr_collect_told(
         (lent (recorder tab.old used.old (flash bytes.old marks.old counts.old fuse.old)) [] (page.old ∷ seen.old ∷ order.old ∷ [])))
         (lent (recorder tab.new used.new (flash bytes.new marks.new counts.new fuse.new)) [] (page.new ∷ seen.new ∷ order.new ∷ [])) result }
 {
-    let geo = Geometry {
-        n,
-        p,
-        s,
-        w,
-        e,
-        limit,
-    };
-    ftl::collect(
-        geo,
-        Numbers::New, // a copy: 28 or 121
-        bad,
-        tab,
-        used,
-        bytes,
-        marks,
-        counts,
-        fuse,
-        page,
-        seen,
-        order,
-    )
+    let geo = Geometry::of(n, p, s, w, e, limit);
+    let answer = ftl::collect(
+        geo, bad, tab, used, bytes, marks, counts, fuse, page, seen, order,
+    );
+    guard::number(Numbers::New, answer) // a copy: 28 or 121
 }
 
 #[unsafe(no_mangle)]
@@ -438,29 +309,11 @@ pub extern "C" fn shr_collect_list_told(
         (lent (recorder tab.old used.old (flash bytes.old marks.old counts.old fuse.old)) [] (page.old ∷ seen.old ∷ order.old ∷ [])))
         (lent (recorder tab.new used.new (flash bytes.new marks.new counts.new fuse.new)) [] (page.new ∷ seen.new ∷ order.new ∷ [])) result }
 {
-    let geo = Geometry {
-        n,
-        p,
-        s,
-        w,
-        e,
-        limit,
-    };
-    ftl::collect_list(
-        geo,
-        Numbers::New, // a copy: 28 or 121
-        m,
-        bad,
-        tab,
-        used,
-        bytes,
-        marks,
-        counts,
-        fuse,
-        page,
-        seen,
-        order,
-    )
+    let geo = Geometry::of(n, p, s, w, e, limit);
+    let answer = ftl::collect_list(
+        geo, m, bad, tab, used, bytes, marks, counts, fuse, page, seen, order,
+    );
+    guard::number(Numbers::New, answer) // a copy: 28 or 121
 }
 
 #[unsafe(no_mangle)]
@@ -489,30 +342,11 @@ pub extern "C" fn shr_collect_threshold_told(
         (lent (recorder tab.old used.old (flash bytes.old marks.old counts.old fuse.old)) [] (page.old ∷ seen.old ∷ order.old ∷ [])))
         (lent (recorder tab.new used.new (flash bytes.new marks.new counts.new fuse.new)) [] (page.new ∷ seen.new ∷ order.new ∷ [])) result }
 {
-    let geo = Geometry {
-        n,
-        p,
-        s,
-        w,
-        e,
-        limit,
-    };
-    ftl::collect_threshold(
-        geo,
-        Numbers::New, // a copy: 28 or 121
-        threshold,
-        m,
-        bad,
-        tab,
-        used,
-        bytes,
-        marks,
-        counts,
-        fuse,
-        page,
-        seen,
-        order,
-    )
+    let geo = Geometry::of(n, p, s, w, e, limit);
+    let answer = ftl::collect_threshold(
+        geo, threshold, m, bad, tab, used, bytes, marks, counts, fuse, page, seen, order,
+    );
+    guard::number(Numbers::New, answer) // a copy: 28 or 121
 }
 
 // The checkpoint, into the front of the buffer.
@@ -534,15 +368,8 @@ pub extern "C" fn shr_encode(
         (lent (recorder tab.now used.now no_flash) buffer.old (seen.old ∷ [])))
         (lent (recorder tab.now used.now no_flash) buffer.new (seen.new ∷ [])) result }
 {
-    let geo = Geometry {
-        n,
-        p,
-        s,
-        w,
-        e,
-        limit,
-    };
-    ftl::encode(geo, tab, used, buffer, seen)
+    let geo = Geometry::of(n, p, s, w, e, limit);
+    guard::number(Numbers::Old, ftl::encode(geo, tab, used, buffer, seen))
 }
 
 // The tables of a checkpoint, the queue empty: the old choice.
@@ -564,15 +391,9 @@ pub extern "C" fn shr_restore(
         (lent (recorder tab.old used.old no_flash) [] (taken.old ∷ [])))
         (lent (recorder tab.new used.new no_flash) [] (taken.new ∷ [])) result }
 {
-    let geo = Geometry {
-        n,
-        p,
-        s,
-        w,
-        e,
-        limit,
-    };
-    ftl::restore(geo, Queueing::Empty, file, tab, used, taken)
+    let geo = Geometry::of(n, p, s, w, e, limit);
+    let answer = ftl::restore(geo, Queueing::Empty, file, tab, used, taken);
+    guard::number(Numbers::Old, answer)
 }
 
 // The same with each segment queued that has free count 0 and a list shorter than p (02, M-109).
@@ -594,15 +415,9 @@ pub extern "C" fn shr_restore_dead(
         (lent (recorder tab.old used.old no_flash) [] (taken.old ∷ [])))
         (lent (recorder tab.new used.new no_flash) [] (taken.new ∷ [])) result }
 {
-    let geo = Geometry {
-        n,
-        p,
-        s,
-        w,
-        e,
-        limit,
-    };
-    ftl::restore(geo, Queueing::Dead, file, tab, used, taken)
+    let geo = Geometry::of(n, p, s, w, e, limit);
+    let answer = ftl::restore(geo, Queueing::Dead, file, tab, used, taken);
+    guard::number(Numbers::Old, answer)
 }
 
 // The sizes of all that is lent; 0 for a geometry that is refused.
@@ -617,14 +432,7 @@ pub extern "C" fn shr_tab_words(
 ) -> usize
     ensures { result ≡ sized (geometry n p s w e limit) Size.TabWords }
 {
-    let geo = Geometry {
-        n,
-        p,
-        s,
-        w,
-        e,
-        limit,
-    };
+    let geo = Geometry::of(n, p, s, w, e, limit);
     sizes::sized(geo, Size::TabWords)
 }
 
@@ -639,14 +447,7 @@ pub extern "C" fn shr_used_bytes(
 ) -> usize
     ensures { result ≡ sized (geometry n p s w e limit) Size.UsedBytes }
 {
-    let geo = Geometry {
-        n,
-        p,
-        s,
-        w,
-        e,
-        limit,
-    };
+    let geo = Geometry::of(n, p, s, w, e, limit);
     sizes::sized(geo, Size::UsedBytes)
 }
 
@@ -661,14 +462,7 @@ pub extern "C" fn shr_flash_bytes(
 ) -> usize
     ensures { result ≡ sized (geometry n p s w e limit) Size.FlashBytes }
 {
-    let geo = Geometry {
-        n,
-        p,
-        s,
-        w,
-        e,
-        limit,
-    };
+    let geo = Geometry::of(n, p, s, w, e, limit);
     sizes::sized(geo, Size::FlashBytes)
 }
 
@@ -683,14 +477,7 @@ pub extern "C" fn shr_mark_bytes(
 ) -> usize
     ensures { result ≡ sized (geometry n p s w e limit) Size.MarkBytes }
 {
-    let geo = Geometry {
-        n,
-        p,
-        s,
-        w,
-        e,
-        limit,
-    };
+    let geo = Geometry::of(n, p, s, w, e, limit);
     sizes::sized(geo, Size::MarkBytes)
 }
 
@@ -705,14 +492,7 @@ pub extern "C" fn shr_count_words(
 ) -> usize
     ensures { result ≡ sized (geometry n p s w e limit) Size.CountWords }
 {
-    let geo = Geometry {
-        n,
-        p,
-        s,
-        w,
-        e,
-        limit,
-    };
+    let geo = Geometry::of(n, p, s, w, e, limit);
     sizes::sized(geo, Size::CountWords)
 }
 
@@ -727,14 +507,7 @@ pub extern "C" fn shr_bad_bytes(
 ) -> usize
     ensures { result ≡ sized (geometry n p s w e limit) Size.BadBytes }
 {
-    let geo = Geometry {
-        n,
-        p,
-        s,
-        w,
-        e,
-        limit,
-    };
+    let geo = Geometry::of(n, p, s, w, e, limit);
     sizes::sized(geo, Size::BadBytes)
 }
 
@@ -749,14 +522,7 @@ pub extern "C" fn shr_page_bytes(
 ) -> usize
     ensures { result ≡ sized (geometry n p s w e limit) Size.PageBytes }
 {
-    let geo = Geometry {
-        n,
-        p,
-        s,
-        w,
-        e,
-        limit,
-    };
+    let geo = Geometry::of(n, p, s, w, e, limit);
     sizes::sized(geo, Size::PageBytes)
 }
 
@@ -771,14 +537,7 @@ pub extern "C" fn shr_seen_bytes(
 ) -> usize
     ensures { result ≡ sized (geometry n p s w e limit) Size.SeenBytes }
 {
-    let geo = Geometry {
-        n,
-        p,
-        s,
-        w,
-        e,
-        limit,
-    };
+    let geo = Geometry::of(n, p, s, w, e, limit);
     sizes::sized(geo, Size::SeenBytes)
 }
 
@@ -793,14 +552,7 @@ pub extern "C" fn shr_order_words(
 ) -> usize
     ensures { result ≡ sized (geometry n p s w e limit) Size.OrderWords }
 {
-    let geo = Geometry {
-        n,
-        p,
-        s,
-        w,
-        e,
-        limit,
-    };
+    let geo = Geometry::of(n, p, s, w, e, limit);
     sizes::sized(geo, Size::OrderWords)
 }
 
@@ -815,14 +567,7 @@ pub extern "C" fn shr_taken_bytes(
 ) -> usize
     ensures { result ≡ sized (geometry n p s w e limit) Size.TakenBytes }
 {
-    let geo = Geometry {
-        n,
-        p,
-        s,
-        w,
-        e,
-        limit,
-    };
+    let geo = Geometry::of(n, p, s, w, e, limit);
     sizes::sized(geo, Size::TakenBytes)
 }
 
@@ -837,14 +582,7 @@ pub extern "C" fn shr_checkpoint_bytes(
 ) -> usize
     ensures { result ≡ sized (geometry n p s w e limit) Size.CheckpointBytes }
 {
-    let geo = Geometry {
-        n,
-        p,
-        s,
-        w,
-        e,
-        limit,
-    };
+    let geo = Geometry::of(n, p, s, w, e, limit);
     sizes::sized(geo, Size::CheckpointBytes)
 }
 

@@ -8,20 +8,15 @@ use mathlib.Core.Logic.{◌≢◌}
 use mathlib.Core.List.{List}
 use lib.Dec.{eqb, ltb}
 use lib.ListN.{length}
-use lib.IntN.{ℤ}
-use mir.Syntax.{w64}
-use mir.Val.{SFits, to_z, of_z}
-use mir.ValLaws.{to_z-of_z}
 use borrow.Author.Tests.{eqb-true, eqb-false, ne_eqb}
 use Rattle.model.specs.Lists.{splice, total}
 use Rattle.model.specs.declared.Geometry.{Geometry}
-use Rattle.model.specs.declared.Numbers.{Numbers}
 use Rattle.model.specs.Numbers.{Answer}
 use Rattle.model.specs.Numbers.{Ok, Err}
 use Rattle.model.specs.declared.Cause.TheVariants.{Erase}
 use Rattle.model.specs.PageMap.{Found}
-use Rattle.model.specs.PageMap.{Some, spot, None}
-use Rattle.model.specs.Numbers.{Good, empty, seg_of, refusal, number}
+use Rattle.model.specs.PageMap.{Some, None}
+use Rattle.model.specs.Numbers.{Good, empty, seg_of}
 use Rattle.model.specs.Causes.{Kind, in_tests, in_read, in_write, in_copy, in_erase, in_file, kind_of, OfReason}
 use Rattle.model.specs.Tables.{Tables, at, word_of}
 use Rattle.model.specs.Device.{State, state, Out, finish, refuse, go_on, may_program, may_erase}
@@ -31,13 +26,14 @@ use Rattle.model.specs.PageGc.{victim, taken, copy_answer, cleared, finish_of, l
 use Rattle.model.specs.PageGc.{drain, collect_of, collect, collect_more, collect_list, collect_threshold}
 use Rattle.model.specs.Contract.{Fit}
 use Rattle.model.proofs.Causes.{kind_copied}
-use Rattle.model.proofs.Told.{refusal_small}
 use Rattle.model.proofs.Working.{Counted}
 use Rattle.model.proofs.Taken.{taken_sound, victim_flag, victim_full, victim_seg}
 use Rattle.model.proofs.Write.{Wrote, Busy}
 use Rattle.model.proofs.Collect.{W, last_in, Kept, collected}
 use Rattle.guard.specs.Countable.{Countable}
-use Rattle.guard.proofs.Signed.{small}
+use Rattle.ftl.specs.declared.calls.Passes.{Passes}
+use Rattle.ftl.specs.declared.calls.Passes.TheVariants as by
+use Rattle.ftl.specs.Calls.{passes_of}
 
 -- the causes of a write's or a collection's own deed, behind its tests
 abbrev pub Deed : Kind → Type 0
@@ -64,14 +60,6 @@ Upto k (Err c) = Deed (kind_of c)
 pub upto_countable : (k : ℕ) (a : Answer) → k < 9223372036854775808 → Upto k a → Countable a
 upto_countable k (Ok m) h u = omega arith
 upto_countable k (Err c) h u = deed_known (kind_of c) u
-
--- the answer's number, read back from a signed word
-signed : (N : Numbers) (a : Answer) → Countable a → SFits w64 (number N a)
-signed N (Ok m) h = record { sfits = omega arith }
-signed N (Err c) h = small (refusal N c) (refusal_small N c h)
-
-pub read_back : (N : Numbers) (a : Answer) → Countable a → (z : ℤ) → z ≡ number N a → to_z w64 (of_z w64 z) ≡ number N a
-read_back N a h z e = to_z-of_z w64 z (subst (SFits w64) (sym e) (signed N a h)) ∙ e
 
 upto_more : (j k : ℕ) (a : Answer) → j ≤ k → Upto j a → Upto k a
 upto_more j k (Ok m) h u = omega arith
@@ -101,7 +89,7 @@ module _ (G : Geometry) (bad : List ℕ) where
 
       go : (r : Found) → Upto (length d) (write_at G r l off d st).answer
       go None = tt
-      go (Some (spot g k)) = at_page g k (may_program G g k st.flash)
+      go (Some x) = at_page x.segment x.page (may_program G x.segment x.page st.flash)
 
   drain_upto : (b v : ℕ) (st : State) → Upto 0 (drain G bad b v st).answer
   unfolding drain
@@ -175,7 +163,7 @@ module _ (G : Geometry) (bad : List ℕ) where
 
       go : (r : Found) → (write_at G r l off d st).st.tab.queued ≡ st.tab.queued
       go None = refl
-      go (Some (spot g k)) = at_page g k (may_program G g k st.flash)
+      go (Some x) = at_page x.segment x.page (may_program G x.segment x.page st.flash)
 
 queued_then : (k : ℕ) (a : Answer) (o : Out) (f : State → Out) → o.st.tab.queued ≡ k → (f o.st).st.tab.queued ≡ k
     → (go_on a o f).st.tab.queued ≡ k
@@ -266,3 +254,9 @@ module _ (G : Geometry) (K : Good G) (bad : List ℕ) where
       go : (b : Bool) → Countable (cond b (finish 0 st) (collect_list G bad m st)).answer
       go true = omega arith
       go false = list_countable m st S F
+
+  pub passes_countable : (passes : Passes) (st : State) → Counted G st.tab → Fit G st.flash → Countable (passes_of G bad passes st).answer
+  unfolding collect_list
+  passes_countable by.One st S F = collect_countable G bad st
+  passes_countable (by.List m) st S F = list_countable m st S F
+  passes_countable (by.Threshold threshold m) st S F = threshold_countable threshold m st S F

@@ -3,24 +3,26 @@ use Prim.Native.Nat.{ℕ}
 use mathlib.Core.Path.{◌≡◌, refl, sym, ap, ◌∙◌, subst}
 use mathlib.Core.Bool.{Bool, true, false, ◌&&◌}
 use mathlib.Core.List.{List, [], ◌∷◌}
-use lib.IntN.{ℤ}
 use lib.Dec.{eqb}
 use lib.ListN.{length}
 use Rattle.model.specs.Lists.{every, blank, zeros}
 use Rattle.model.specs.declared.Geometry.{Geometry}
-use Rattle.model.specs.declared.Numbers.{Numbers}
 use Rattle.model.specs.declared.Cause.{Cause}
 use Rattle.model.specs.declared.Cause.TheVariants.{Wrong}
-use Rattle.model.specs.Numbers.{Err}
-use Rattle.model.specs.Numbers.{good?, number}
-use Rattle.model.specs.Entry.{Lent, Outcome, PromiseIn, refused, unless, guarded, clean}
-use Rattle.model.proofs.Refusals.{promised, guarded_sizes}
+use Rattle.model.specs.Numbers.{Answer, Err}
+use Rattle.model.specs.Numbers.{good?}
+use Rattle.model.specs.Entry.{Lent, Outcome, Answered, refused, unless, guarded, clean}
+use Rattle.model.proofs.Refusals.{guarded_sizes}
 use Rattle.model.proofs.Guard.{both}
 use Rattle.ftl.proofs.Passing.{clean-zeros}
 
 -- a promise of an outcome is one of the same outcome by another name
-pub by : {N : Numbers} {o o' : Outcome} {y : Lent} {r : ℤ} → o ≡ o' → PromiseIn N o' y r → PromiseIn N o y r
-by {N} {y = y} {r = r} e = subst (λ o. PromiseIn N o y r) (sym e)
+pub by : {o o' : Outcome} {y : Lent} {r : Answer} → o ≡ o' → Answered o' y r → Answered o y r
+by {y = y} {r = r} e = subst (λ o. Answered o y r) (sym e)
+
+-- a refusal that changes nothing
+pub answered : {c : Cause} {x : Lent} → Answered (refused c x) x (Err c)
+answered = record { left_is = refl; answer_is = refl }
 
 -- refused by a test behind the guard
 pub unless_fails : (b : Bool) (c : Cause) (x : Lent) (o : Outcome) → b ≡ false → unless b c x o ≡ refused c x
@@ -42,12 +44,12 @@ module _ (G : Geometry) (ts : List Bool) where
 
   module _ (b c d : Bool) (x : Lent) (o : Outcome) where
     -- refused for the geometry, and for a size
-    pub bad_geometry : {N : Numbers} → good? G ≡ false → PromiseIn N (guarded (every (good? G ∷ ts)) b c d x o) x (number N (Err Wrong))
+    pub bad_geometry : good? G ≡ false → Answered (guarded (every (good? G ∷ ts)) b c d x o) x (Err Wrong)
     unfolding every
-    bad_geometry e = by (guarded_sizes (every (good? G ∷ ts)) b c d x o (rw e)) (promised refl)
+    bad_geometry e = by (guarded_sizes (every (good? G ∷ ts)) b c d x o (rw e)) answered
 
-    pub bad_size : {N : Numbers} → every ts ≡ false → PromiseIn N (guarded (every (good? G ∷ ts)) b c d x o) x (number N (Err Wrong))
-    bad_size e = by (guarded_sizes (every (good? G ∷ ts)) b c d x o (not_sizes e)) (promised refl)
+    pub bad_size : every ts ≡ false → Answered (guarded (every (good? G ∷ ts)) b c d x o) x (Err Wrong)
+    bad_size e = by (guarded_sizes (every (good? G ∷ ts)) b c d x o (not_sizes e)) answered
 
 -- clean scratch is zeros
 pub clean_is : (k : ℕ) (s : List ℕ) → clean (k ∷ []) (s ∷ []) ≡ true → s ≡ zeros k

@@ -7,17 +7,15 @@ use mathlib.Core.Bool.{Bool, true, false, not}
 use mathlib.Core.List.{List, [], ◌∷◌}
 use lib.Dec.{eqb, leb}
 use lib.ListN.{length, take, drop}
-use lib.IntN.{ℤ, pos}
 use borrow.Author.Tests.{eq-eqb, ne_eqb, lt-ltb, le-ltb, le-leb, lt-leb}
 use Rattle.model.specs.declared.Geometry.{Geometry}
-use Rattle.model.specs.declared.Numbers.TheVariants.{Old}
 use Rattle.model.specs.declared.Cause.TheVariants.{Wrong, Unsound, Unmapped}
-use Rattle.model.specs.Numbers.{Err}
+use Rattle.model.specs.Numbers.{Ok, Err}
 use Rattle.model.specs.Lists.{every, slot, splice}
-use Rattle.model.specs.Numbers.{good?, empty, flat, logical_page, offset, number}
+use Rattle.model.specs.Numbers.{good?, empty, flat, logical_page, offset}
 use Rattle.model.specs.Tables.{word_of, pages}
 use Rattle.model.specs.Sound.{soundb}
-use Rattle.model.specs.Entry.{Lent, lent, Promise, tables_of, tables_fit, clean, seen_scratch, read}
+use Rattle.model.specs.Entry.{Lent, lent, Answered, tables_of, tables_fit, clean, seen_scratch, read}
 use Rattle.model.proofs.Working.{Counted}
 use Rattle.model.proofs.Slots.{part_fits}
 use Rattle.model.proofs.Regions.{region-region}
@@ -50,11 +48,11 @@ module _ (G : Geometry) (sector len : ℕ) (x : Lent) where
   abbrev pub word_read : ℕ
   word_read = word_of (tables_of G x) (logical_page G sector)
 
-  pub read_wrong : good? G ≡ false → Promise (read G sector len x) x (number Old (Err Wrong))
+  pub read_wrong : good? G ≡ false → Answered (read G sector len x) x (Err Wrong)
   unfolding read
   read_wrong = bad_geometry G read_tests _ _ _ x _
 
-  pub read_size : every read_tests ≡ false → Promise (read G sector len x) x (number Old (Err Wrong))
+  pub read_size : every read_tests ≡ false → Answered (read G sector len x) x (Err Wrong)
   unfolding read
   read_size = bad_size G read_tests _ _ _ x _
 
@@ -71,24 +69,24 @@ module _ (G : Geometry) (sector len : ℕ) (x : Lent) where
       back : lent x.unit x.buffer s ≡ x
       back = ap (lent x.unit x.buffer) q
 
-      pub read_unsound : soundb G (tables_of G x) ≡ false → Promise (read G sector len x) (lent x.unit x.buffer s) (number Old (Err Unsound))
+      pub read_unsound : soundb G (tables_of G x) ≡ false → Answered (read G sector len x) (lent x.unit x.buffer s) (Err Unsound)
       unfolding read
       read_unsound h = by (guarded_sound _ _ _ _ x _ (all_sizes G read_tests g e) h) (record { left_is = back; answer_is = refl })
 
       module _ (h : soundb G (tables_of G x) ≡ true) where
-        pub read_page : G.e ≤ logical_page G sector → Promise (read G sector len x) (lent x.unit x.buffer s) (number Old (Err Wrong))
+        pub read_page : G.e ≤ logical_page G sector → Answered (read G sector len x) (lent x.unit x.buffer s) (Err Wrong)
         unfolding read
         read_page l =
             by (guarded_page _ _ _ _ x _ (all_sizes G read_tests g e) h (le-ltb _ _ l)) (record { left_is = back; answer_is = refl })
 
         module _ (l : logical_page G sector < G.e) where
-          pub read_overrun : G.s < offset G sector + len → Promise (read G sector len x) (lent x.unit x.buffer s) (number Old (Err Wrong))
+          pub read_overrun : G.s < offset G sector + len → Answered (read G sector len x) (lent x.unit x.buffer s) (Err Wrong)
           unfolding read
           read_overrun o =
               by (guarded_overrun _ _ _ _ x _ (all_sizes G read_tests g e) h (lt-ltb _ _ l) (lt-leb _ _ o)) (record { left_is = back; answer_is = refl })
 
           module _ (o : offset G sector + len ≤ G.s) where
-            pub read_unmapped : word_read ≡ empty → Promise (read G sector len x) (lent x.unit x.buffer s) (number Old (Err Unmapped))
+            pub read_unmapped : word_read ≡ empty → Answered (read G sector len x) (lent x.unit x.buffer s) (Err Unmapped)
             unfolding read
             read_unmapped m =
                 by
@@ -96,12 +94,12 @@ module _ (G : Geometry) (sector len : ℕ) (x : Lent) where
                 ∙ unless_fails _ _ x _ (ap not (eq-eqb word_read empty m)))
                 (record { left_is = back; answer_is = refl })
 
-            pub read_done : word_read ≢ empty → (d : List ℕ) (r : ℤ)
-                → d ≡ splice 0 (take len (drop (offset G sector) (slot G.s (flat G word_read) x.unit.flash.bytes))) x.buffer → r ≡ pos len
-                → Promise (read G sector len x) (lent x.unit d s) r
+            pub read_done : word_read ≢ empty → (d : List ℕ)
+                → d ≡ splice 0 (take len (drop (offset G sector) (slot G.s (flat G word_read) x.unit.flash.bytes))) x.buffer
+                → Answered (read G sector len x) (lent x.unit d s) (Ok len)
             unfolding read
-            read_done m d r v n =
+            read_done m d v =
                 by
                 (guarded_passes _ _ _ _ x _ (all_sizes G read_tests g e) h (lt-ltb _ _ l) (le-leb _ _ o)
                 ∙ unless_passes _ _ x _ (ap not (ne_eqb word_read empty m)))
-                (record { left_is = cc (v, q); answer_is = n })
+                (record { left_is = cc (v, q); answer_is = refl })

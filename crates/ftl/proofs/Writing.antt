@@ -1,31 +1,30 @@
 -- The write entry: each test that fails, and the write done.
 use Prim.Native.Nat.{ℕ, ◌+◌, ◌-◌, ◌<◌, ◌≤◌}
-use native.Mathlib.Nat.{mod-lt, sub-zero}
+use native.Mathlib.Nat.{mod-lt}
 use native.Mathlib.Omega.{arith}
 use mathlib.Core.Path.{◌≡◌, refl, sym, ap, ap₂, ◌∙◌, subst}
 use mathlib.Core.Bool.{Bool, true, false, ◌&&◌}
 use mathlib.Core.List.{List, [], ◌∷◌}
 use lib.Dec.{eqb, leb, ltb}
-use lib.IntN.{ℤ, negsuc}
 use lib.ListN.{length, take}
 use lib.Seq.{length-take-le}
 use borrow.Author.Tests.{le-leb, lt-leb, leb-true}
 use Rattle.model.specs.declared.Geometry.{Geometry}
-use Rattle.model.specs.declared.Numbers.{Numbers}
 use Rattle.model.specs.Numbers.{Answer}
 use Rattle.model.specs.declared.Cause.{Cause}
 use Rattle.model.specs.Numbers.{Err}
 use Rattle.model.specs.declared.Cause.TheVariants.{Wrong, Unsound}
 use Rattle.model.specs.Lists.{every, zeros}
-use Rattle.model.specs.Numbers.{good?, logical_page, offset, number}
+use Rattle.model.specs.Numbers.{good?, logical_page, offset}
 use Rattle.model.specs.Tables.{view}
 use Rattle.model.specs.Device.{Flash, State, state, Out}
 use Rattle.model.specs.Contract.{Done}
 use Rattle.model.specs.PageWrite.{write_page}
-use Rattle.model.specs.Entry.{Recorder, recorder, Lent, lent, Outcome, PromiseIn, refused, clean, tables_fit, flash_fits, page_scratch, seen_scratch, all_fits, back, write}
+use Rattle.model.specs.Entry.{Recorder, recorder, Lent, lent, Outcome, Answered, refused, clean, tables_fit, flash_fits, page_scratch, seen_scratch, all_fits, back, write}
 use Rattle.model.proofs.Guard.{guarded_passes}
-use Rattle.model.proofs.Refusals.{promised, guarded_sizes, guarded_sound, guarded_page, guarded_overrun}
+use Rattle.model.proofs.Refusals.{guarded_sizes, guarded_sound, guarded_page, guarded_overrun}
 use Rattle.guard.specs.Countable.{Countable}
+use Rattle.ftl.proofs.Guards.{by, answered}
 use Rattle.ftl.proofs.Answers.{write_upto, upto_countable}
 use Rattle.ftl.proofs.Passing.{clean?, fit?, sound?, Passed, unit_is}
 
@@ -40,9 +39,8 @@ pub runs_over : (off len s : ℕ) → off < s → s - off < len → leb (off + l
 runs_over off len s h r = lt-leb (off + len) s (omega arith)
 
 -- what the inner write is lent of the caller's data
-pub sent_fits : (off len s : ℕ) (d : List ℕ) → len ≤ length d → leb (off + len) s ≡ true → off + length (take (len - 0) d) ≤ s
-sent_fits off len s d h r =
-    subst (λ (k : ℕ). off + k ≤ s) (sym (ap (λ (k : ℕ). length (take k d)) (sub-zero len) ∙ length-take-le len d h)) (leb-true (off + len) s r)
+pub sent_fits : (off len s : ℕ) (d : List ℕ) → len ≤ length d → leb (off + len) s ≡ true → off + length (take len d) ≤ s
+sent_fits off len s d h r = subst (λ (k : ℕ). off + k ≤ s) (sym (length-take-le len d h)) (leb-true (off + len) s r)
 
 -- a row of tests: one that fails, and all that pass
 row_not : (g t f b p s l : Bool) → (g && ((t && (f && (b && (p && s)))) && l)) ≡ false
@@ -85,19 +83,15 @@ module _ (G : Geometry) (bad : List ℕ) (x : Recorder) (page seen : List ℕ) (
   abbrev room? : Bool
   room? = leb (offset G sector + len) G.s
 
-  abbrev pub written : ℕ → Out
-  written k = write_page G bad (logical_page G sector) (offset G sector) (take k d) (state (view G x.words x.used) x.flash)
-
-  abbrev inner : Out
-  inner = written len
+  abbrev pub inner : Out
+  inner = write_page G bad (logical_page G sector) (offset G sector) (take len d) (state (view G x.words x.used) x.flash)
 
   -- the inner write's answer fits a signed word
-  pub answered : (r : Answer) (st : State) → Done (written (len - 0)) r st → offset G sector + length (take (len - 0) d) ≤ G.s → G.s ≤ 65536
-      → Countable r
-  answered r st D h s =
+  pub answer_fits : (r : Answer) (st : State) → Done inner r st → offset G sector + length (take len d) ≤ G.s → G.s ≤ 65536 → Countable r
+  answer_fits r st D h s =
       subst Countable (sym D.answer)
-      (upto_countable (length (take (len - 0) d)) (written (len - 0)).answer (omega arith)
-      (write_upto G bad (logical_page G sector) (offset G sector) (take (len - 0) d) (state (view G x.words x.used) x.flash)))
+      (upto_countable (length (take len d)) inner.answer (omega arith)
+      (write_upto G bad (logical_page G sector) (offset G sector) (take len d) (state (view G x.words x.used) x.flash)))
 
   -- the tests of the definition, from those of the code
   abbrev sized? : Bool
@@ -124,56 +118,52 @@ module _ (G : Geometry) (bad : List ℕ) (x : Recorder) (page seen : List ℕ) (
       h)
 
   -- a refusal that changes nothing
-  stays : {N : Numbers} (k : Cause) (z : ℤ) → z ≡ number N (Err k) → entry ≡ refused k given → PromiseIn N entry given z
-  stays {N} k z e q = subst (λ (y : Outcome). PromiseIn N y given z) (sym q) (promised e)
+  stays : (k : Cause) → entry ≡ refused k given → Answered entry given (Err k)
+  stays k q = by q answered
 
   -- the same after the soundness test, which hands its scratch back as it was
-  stays_seen : {N : Numbers} → Pass → (seen' : List ℕ) → seen' ≡ zeros (G.n + G.p) → (k : Cause) (z : ℤ) → z ≡ number N (Err k) → entry ≡ refused k given
-      → PromiseIn N entry (lent x [] (page ∷ seen' ∷ [])) z
-  stays_seen {N} P seen' s k z e q =
-      subst (λ (y : List ℕ). PromiseIn N entry (lent x [] (page ∷ y ∷ [])) z) (P.seen_clean ∙ sym s) (stays k z e q)
+  stays_seen : Pass → (seen' : List ℕ) → seen' ≡ zeros (G.n + G.p) → (k : Cause) → entry ≡ refused k given
+      → Answered entry (lent x [] (page ∷ seen' ∷ [])) (Err k)
+  stays_seen P seen' s k q =
+      subst (λ (y : List ℕ). Answered entry (lent x [] (page ∷ y ∷ [])) (Err k)) (P.seen_clean ∙ sym s) (stays k q)
 
-  wrong : {N : Numbers} → (good? G && (fits? && long?)) ≡ false → PromiseIn N entry given (negsuc 21)
+  wrong : (good? G && (fits? && long?)) ≡ false → Answered entry given (Err Wrong)
   unfolding write
-  wrong e = stays Wrong (negsuc 21) refl (guarded_sizes sized? sounds inside? room? given (back G given inner) (sized_not e))
+  wrong e = stays Wrong (guarded_sizes sized? sounds inside? room? given (back G given inner) (sized_not e))
 
-  pub wrong_geometry : {N : Numbers} → good? G ≡ false → PromiseIn N entry given (negsuc 21)
+  pub wrong_geometry : good? G ≡ false → Answered entry given (Err Wrong)
   wrong_geometry e = wrong (rw e)
 
-  pub wrong_size : {N : Numbers} → good? G ≡ true → fits? ≡ false → PromiseIn N entry given (negsuc 21)
+  pub wrong_size : good? G ≡ true → fits? ≡ false → Answered entry given (Err Wrong)
   wrong_size g e = wrong (ap₂ (λ x y. x && (y && long?)) g e)
 
-  pub too_short : {N : Numbers} → good? G ≡ true → fits? ≡ true → long? ≡ false → PromiseIn N entry given (negsuc 21)
+  pub too_short : good? G ≡ true → fits? ≡ true → long? ≡ false → Answered entry given (Err Wrong)
   too_short g h e = wrong (ap₂ ◌&&◌ g (ap₂ ◌&&◌ h e))
 
   module _ (P : Pass) (l : long? ≡ true) (seen' : List ℕ) (s : seen' ≡ zeros (G.n + G.p)) where
     abbrev left : Lent
     left = lent x [] (page ∷ seen' ∷ [])
 
-    pub unsound : {N : Numbers} → sounds ≡ false → PromiseIn N entry left (negsuc 116)
+    pub unsound : sounds ≡ false → Answered entry left (Err Unsound)
     unfolding write
-    unsound e = stays_seen P seen' s Unsound (negsuc 116) refl (guarded_sound sized? sounds inside? room? given (back G given inner) (sized P l) e)
+    unsound e = stays_seen P seen' s Unsound (guarded_sound sized? sounds inside? room? given (back G given inner) (sized P l) e)
 
-    pub outside : {N : Numbers} → sounds ≡ true → inside? ≡ false → PromiseIn N entry left (negsuc 21)
+    pub outside : sounds ≡ true → inside? ≡ false → Answered entry left (Err Wrong)
     unfolding write
-    outside q e = stays_seen P seen' s Wrong (negsuc 21) refl (guarded_page sized? sounds inside? room? given (back G given inner) (sized P l) q e)
+    outside q e = stays_seen P seen' s Wrong (guarded_page sized? sounds inside? room? given (back G given inner) (sized P l) q e)
 
-    pub overrun : {N : Numbers} → sounds ≡ true → inside? ≡ true → room? ≡ false → PromiseIn N entry left (negsuc 21)
+    pub overrun : sounds ≡ true → inside? ≡ true → room? ≡ false → Answered entry left (Err Wrong)
     unfolding write
-    overrun q i e = stays_seen P seen' s Wrong (negsuc 21) refl (guarded_overrun sized? sounds inside? room? given (back G given inner) (sized P l) q i e)
+    overrun q i e = stays_seen P seen' s Wrong (guarded_overrun sized? sounds inside? room? given (back G given inner) (sized P l) q i e)
 
-    -- the inner write answered r, and left the words w, the use marks u and the flash f; z is what the entry answers
-    pub done : {N : Numbers} → sounds ≡ true → inside? ≡ true → room? ≡ true → (w u : List ℕ) (f : Flash) (page' : List ℕ)
-        → length w ≡ length x.words → page' ≡ zeros G.s → (r : Answer) → Done (written (len - 0)) r (state (view G w u) f)
-        → (z : ℤ) → z ≡ number N r → PromiseIn N entry (lent (recorder w u f) [] (page' ∷ seen' ∷ [])) z
+    -- the inner write answered r, and left the words w, the use marks u and the flash f
+    pub done : sounds ≡ true → inside? ≡ true → room? ≡ true → (w u : List ℕ) (f : Flash) (page' : List ℕ)
+        → length w ≡ length x.words → page' ≡ zeros G.s → (r : Answer) → Done inner r (state (view G w u) f)
+        → Answered entry (lent (recorder w u f) [] (page' ∷ seen' ∷ [])) r
     unfolding write
-    done {N} q i o w u f page' long p r D z e =
-        subst (λ (y : Outcome). PromiseIn N y (lent (recorder w u f) [] (page' ∷ seen' ∷ [])) z)
-        (sym (guarded_passes sized? sounds inside? room? given (back G given inner) (sized P l) q i o))
-        (record { left_is = all; answer_is = e ∙ ap (number N) D'.answer })
+    done q i o w u f page' long p r D =
+        by (guarded_passes sized? sounds inside? room? given (back G given inner) (sized P l) q i o)
+        (record { left_is = all; answer_is = D.answer })
       where
-        D' : Done inner r (state (view G w u) f)
-        D' = subst (λ (k : ℕ). Done (written k) r (state (view G w u) f)) (sub-zero len) D
-
         all : lent (recorder w u f) [] (page' ∷ seen' ∷ []) ≡ (back G given inner).left
-        all = cc (unit_is G bad x page seen P inner r w u f long D', p, s, P.ready.page_clean, P.seen_clean)
+        all = cc (unit_is G bad x page seen P inner r w u f long D, p, s, P.ready.page_clean, P.seen_clean)

@@ -8,37 +8,20 @@ ghost use Rattle.model.specs.Lists.{every, slot, splice};
 ghost use Rattle.model.specs.Numbers.{Good, flat};
 ghost use Rattle.model.specs.Tables.{pages, view};
 ghost use Rattle.model.specs.Sound.{soundb};
-ghost use Rattle.model.specs.Device.{flash};
+ghost use Rattle.model.specs.Device.{flash, state};
 ghost use Rattle.model.specs.Checkpoint.{file_size};
 ghost use Rattle.model.specs.Entry.{recorder, lent, no_flash, Answered, tables_fit, clean, all_fits, page_scratch, seen_scratch};
-ghost use Rattle.model.specs.Entry.{formatting, opening, read, write, collection, list_collection, threshold_collection, encoding, restoring};
+ghost use Rattle.model.specs.Entry.{formatting, opening, read, write, collecting, collection, list_collection, threshold_collection, encoding, restoring};
 ghost use Rattle.ftl.specs.Tests.{tested};
+ghost use Rattle.ftl.specs.Calls.{passes_of};
 
 use device::FlashMut;
 use model::{Answer, Cause, Geometry, LogicalPage, PhysicalAddress, Queueing};
-use tables::packed::in_parts;
+use tables::packed::on_packed;
 
-// What an inner write is lent beside the tables.
-#[derive(Drop)]
-struct Lent<'a> {
-    flash: FlashMut<'a>,
-    page: &'a mut [u8],
-}
+pub mod calls;
 
-// What an inner collection is lent beside the tables.
-#[derive(Drop)]
-struct LentMore<'a> {
-    flash: FlashMut<'a>,
-    counts: &'a mut [u32],
-    page: &'a mut [u8],
-    order: &'a mut [u32],
-}
-
-// What restoring is lent beside the tables.
-#[derive(Drop)]
-struct Taken<'a> {
-    taken: &'a mut [u8],
-}
+use calls::{Collecting, Opening, Passes, Restoring, Writing};
 
 // "Formatting erases every segment, whatever its count, sets counts to 0 and answers 0; it tests geometry and sizes only."
 pub fn format(
@@ -82,8 +65,7 @@ pub fn open(geo: Geometry, tab: &mut [u32], used: &mut [u8]) -> Answer
     if !guard::tables_fit(geo, tab, used) {
         return Err(Cause::Wrong);
     }
-    in_parts(geo, tab, used, &mut (), |t, _| checkpoint::open(t));
-    Ok(0)
+    on_packed(geo, tab, used, &mut Opening)
 }
 
 // The bytes of the page at address a from the offset on, laid into the buffer's front.
@@ -180,26 +162,17 @@ pub fn write(
     if len > geo.s - off {
         return Err(Cause::Wrong);
     }
-    let mut lent = Lent {
-        flash: FlashMut {
-            geo,
-            bytes,
-            marks,
-            fuse,
-        },
+    let mut deed = Writing {
+        bytes,
+        marks,
+        fuse,
+        l: LogicalPage(l),
+        off,
+        xs: &xs[..len],
+        bad,
         page,
     };
-    in_parts(geo, tab, used, &mut lent, |t, u| {
-        page_write::write_page(
-            t,
-            &mut u.flash,
-            LogicalPage(l),
-            off,
-            &xs[..len],
-            bad,
-            u.page,
-        )
-    })
+    on_packed(geo, tab, used, &mut deed)
 }
 
 // What a collection tests: geometry, sizes and scratch, and soundness.
@@ -236,6 +209,42 @@ fn collection_tests(
     Ok(())
 }
 
+// The collections, by the passes that they make.
+fn collect_by(
+    geo: Geometry,
+    passes: Passes,
+    bad: &[u8],
+    tab: &mut [u32],
+    used: &mut [u8],
+    bytes: &mut [u8],
+    marks: &mut [u8],
+    counts: &mut [u32],
+    fuse: &mut u64,
+    page: &mut [u8],
+    seen: &mut [u8],
+    order: &mut [u32],
+) -> Answer
+    ensures answered { Answered
+        (collecting geo bad.now
+        (lent (recorder tab.old used.old (flash bytes.old marks.old counts.old fuse.old)) [] (page.old ∷ seen.old ∷ order.old ∷ []))
+        (passes_of geo bad.now passes (state (view geo tab.old used.old) (flash bytes.old marks.old counts.old fuse.old))))
+        (lent (recorder tab.new used.new (flash bytes.new marks.new counts.new fuse.new)) [] (page.new ∷ seen.new ∷ order.new ∷ [])) result }
+    ensures countable { Countable result }
+{
+    collection_tests(geo, bad, tab, used, bytes, marks, counts, page, seen, order)?;
+    let mut deed = Collecting {
+        passes,
+        bytes,
+        marks,
+        fuse,
+        counts,
+        bad,
+        page,
+        order,
+    };
+    on_packed(geo, tab, used, &mut deed)
+}
+
 // One collection.
 pub fn collect(
     geo: Geometry,
@@ -256,21 +265,20 @@ pub fn collect(
         (lent (recorder tab.new used.new (flash bytes.new marks.new counts.new fuse.new)) [] (page.new ∷ seen.new ∷ order.new ∷ [])) result }
     ensures countable { Countable result }
 {
-    collection_tests(geo, bad, tab, used, bytes, marks, counts, page, seen, order)?;
-    let mut lent = LentMore {
-        flash: FlashMut {
-            geo,
-            bytes,
-            marks,
-            fuse,
-        },
+    collect_by(
+        geo,
+        Passes::One,
+        bad,
+        tab,
+        used,
+        bytes,
+        marks,
         counts,
+        fuse,
         page,
+        seen,
         order,
-    };
-    in_parts(geo, tab, used, &mut lent, |t, u| {
-        page_gc::collect(t, &mut u.flash, u.counts, bad, u.page, u.order)
-    })
+    )
 }
 
 // Collections from the list, at most m of them counted.
@@ -294,21 +302,20 @@ pub fn collect_list(
         (lent (recorder tab.new used.new (flash bytes.new marks.new counts.new fuse.new)) [] (page.new ∷ seen.new ∷ order.new ∷ [])) result }
     ensures countable { Countable result }
 {
-    collection_tests(geo, bad, tab, used, bytes, marks, counts, page, seen, order)?;
-    let mut lent = LentMore {
-        flash: FlashMut {
-            geo,
-            bytes,
-            marks,
-            fuse,
-        },
+    collect_by(
+        geo,
+        Passes::List(m),
+        bad,
+        tab,
+        used,
+        bytes,
+        marks,
         counts,
+        fuse,
         page,
+        seen,
         order,
-    };
-    in_parts(geo, tab, used, &mut lent, |t, u| {
-        page_gc::collect_list(t, &mut u.flash, u.counts, m, bad, u.page, u.order)
-    })
+    )
 }
 
 // Collections from the list, unless more pages are free than the threshold.
@@ -333,30 +340,20 @@ pub fn collect_threshold(
         (lent (recorder tab.new used.new (flash bytes.new marks.new counts.new fuse.new)) [] (page.new ∷ seen.new ∷ order.new ∷ [])) result }
     ensures countable { Countable result }
 {
-    collection_tests(geo, bad, tab, used, bytes, marks, counts, page, seen, order)?;
-    let mut lent = LentMore {
-        flash: FlashMut {
-            geo,
-            bytes,
-            marks,
-            fuse,
-        },
+    collect_by(
+        geo,
+        Passes::Threshold(threshold, m),
+        bad,
+        tab,
+        used,
+        bytes,
+        marks,
         counts,
+        fuse,
         page,
+        seen,
         order,
-    };
-    in_parts(geo, tab, used, &mut lent, |t, u| {
-        page_gc::collect_threshold(
-            t,
-            &mut u.flash,
-            u.counts,
-            threshold,
-            m,
-            bad,
-            u.page,
-            u.order,
-        )
-    })
+    )
 }
 
 // What encoding tests beside the geometry: the tables, the buffer, and scratch for the soundness test.
@@ -418,10 +415,10 @@ pub fn restore(
         return Err(Cause::Wrong);
     }
     checkpoint::check(geo, file)?;
-    let mut marks = Taken { taken };
-    in_parts(geo, tab, used, &mut marks, |t, m| {
-        checkpoint::restore(t, file, m.taken);
-        requeue::requeue(t, queueing);
-    });
-    Ok(0)
+    let mut deed = Restoring {
+        queueing,
+        file,
+        taken,
+    };
+    on_packed(geo, tab, used, &mut deed)
 }

@@ -15,18 +15,14 @@ pub fn tables_fit(geo: Geometry, tab: &[u32], used: &[u8]) -> bool
     requires { Good geo }
     ensures { result ≡ (eqb (length tab.now) (tab_words geo) && eqb (length used.now) (pages geo)) }
 {
-    let all = geo.n * geo.p;
-    if tab.len() != geo.e + geo.n * 5 + 2 + all {
-        return false;
-    }
-    used.len() == all
+    tab.len() == geo.words() && used.len() == geo.pages()
 }
 
 pub fn bytes_fit(geo: Geometry, bytes: &[u8]) -> bool
     requires { Good geo }
     ensures { result ≡ eqb (length bytes.now) (pages geo * geo.s) }
 {
-    bytes.len() == geo.n * geo.p * geo.s
+    bytes.len() == geo.pages() * geo.s
 }
 
 // The flash's sizes.
@@ -34,32 +30,20 @@ pub fn flash_fits(geo: Geometry, bytes: &[u8], marks: &[u8], counts: &[u32]) -> 
     requires { Good geo }
     ensures { result ≡ (eqb (length bytes.now) (pages geo * geo.s) && (eqb (length marks.now) (pages geo) && eqb (length counts.now) geo.n)) }
 {
-    if !bytes_fit(geo, bytes) {
-        return false;
-    }
-    if marks.len() != geo.n * geo.p {
-        return false;
-    }
-    counts.len() == geo.n
+    bytes_fit(geo, bytes) && marks.len() == geo.pages() && counts.len() == geo.n
 }
 
-// Scratch of k bytes, and of k words: the right size, and all zero.
+// Scratch of k bytes, and of k words, which callers test by two names: the right size, and all zero.
 pub fn clean(s: &[u8], k: usize) -> bool
     ensures { result ≡ (eqb (length s.now) k && blank s.now) }
 {
-    if s.len() != k {
-        return false;
-    }
-    sound::blank(s)
+    s.len() == k && sound::blank(s)
 }
 
 pub fn clean_words(s: &[u32], k: usize) -> bool
     ensures { result ≡ (eqb (length s.now) k && blank s.now) }
 {
-    if s.len() != k {
-        return false;
-    }
-    sound::blank_words(s)
+    s.len() == k && sound::blank_words(s)
 }
 
 // What write and the collections test first beside the geometry: tables, flash, bad list, and scratch for a page and for the soundness test.
@@ -81,22 +65,15 @@ pub fn all_fit(
         && ((eqb (length page.now) geo.s && blank page.now)
         && (eqb (length seen.now) (geo.n + geo.p) && blank seen.now))))) }
 {
-    if !tables_fit(geo, tab, used) {
-        return false;
-    }
-    if !flash_fits(geo, bytes, marks, counts) {
-        return false;
-    }
-    if bad.len() != geo.n {
-        return false;
-    }
-    if !clean(page, geo.s) {
-        return false;
-    }
-    clean(seen, geo.n + geo.p)
+    tables_fit(geo, tab, used)
+        && flash_fits(geo, bytes, marks, counts)
+        && bad.len() == geo.n
+        && clean(page, geo.s)
+        && clean(seen, geo.n + geo.p)
 }
 
 // What reading tests beside the geometry: the tables, the flash's bytes, the buffer, and scratch for the soundness test.
+#[tactic(auto, using(std::proofs::lemmas::Bool::Decides::nat_tests), unfolding(model::specs::Lists::every, model::specs::Entry::clean))]
 pub fn read_fits(
     geo: Geometry,
     len: usize,
@@ -114,19 +91,14 @@ pub fn read_fits(
         ∷ clean (seen_scratch geo ∷ []) (seen.now ∷ [])
         ∷ []) }
 {
-    if !tables_fit(geo, tab, used) {
-        return false;
-    }
-    if !bytes_fit(geo, bytes) {
-        return false;
-    }
-    if out.len() < len {
-        return false;
-    }
-    clean(seen, geo.n + geo.p)
+    tables_fit(geo, tab, used)
+        && bytes_fit(geo, bytes)
+        && len <= out.len()
+        && clean(seen, geo.n + geo.p)
 }
 
 // What restoring tests beside the geometry: the tables, and scratch for the marks of the pages taken.
+#[tactic(auto, using(std::proofs::lemmas::Bool::Decides::nat_tests), unfolding(model::specs::Lists::every, model::specs::Entry::clean))]
 pub fn restore_fits(geo: Geometry, tab: &[u32], used: &[u8], taken: &[u8]) -> bool
     requires { Good geo }
     ensures { result ≡ every
@@ -134,10 +106,7 @@ pub fn restore_fits(geo: Geometry, tab: &[u32], used: &[u8], taken: &[u8]) -> bo
         ∷ clean (pages geo ∷ []) (taken.now ∷ [])
         ∷ []) }
 {
-    if !tables_fit(geo, tab, used) {
-        return false;
-    }
-    clean(taken, geo.n * geo.p)
+    tables_fit(geo, tab, used) && clean(taken, geo.pages())
 }
 
 // The number by the choice: document 01's, or that of 02, M-101.

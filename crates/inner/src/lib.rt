@@ -9,15 +9,12 @@ ghost use Rattle.model.specs.Tables.{pages, tab_words};
 ghost use Rattle.model.specs.Entry.{seen_scratch};
 ghost use Rattle.model.specs.Contract.{Held, Ready};
 
-use model::{Answer, Geometry, LogicalPage};
+use ftl::calls::{Collecting, Passes, Writing};
+use model::{Geometry, LogicalPage};
+use tables::packed::on_packed;
 
-// Bytes moved, or 2^64-1.
-fn moved(a: Answer) -> usize {
-    match a {
-        Answer::Moved(m) => m,
-        Answer::Refused(c) => 18446744073709551615,
-    }
-}
+// What stands for a refusal; else the answer is the bytes moved.
+const REFUSED: usize = usize::MAX;
 
 #[unsafe(no_mangle)]
 pub extern "C" fn shr_inner_write(
@@ -44,17 +41,18 @@ pub extern "C" fn shr_inner_write(
     requires ready { Ready (geometry n p s w e limit) bad.now page.old bytes.old marks.old }
     requires s_nonzero { (0 < s) × (sector / s < e) × (sector % s + length xs.now ≤ s) }
 {
-    let geo = Geometry {
-        n,
-        p,
-        s,
-        w,
-        e,
-        limit,
+    let geo = Geometry::of(n, p, s, w, e, limit);
+    let mut write = Writing {
+        bytes,
+        marks,
+        fuse,
+        l: LogicalPage(sector / s),
+        off: sector % s,
+        xs,
+        bad,
+        page,
     };
-    let l = LogicalPage(sector / s);
-    let off = sector % s;
-    moved(page_write::write_page(geo, l, off, xs, bad, page, tab, used, bytes, marks, fuse))
+    on_packed(geo, tab, used, &mut write).unwrap_or(REFUSED)
 }
 
 #[unsafe(no_mangle)]
@@ -80,15 +78,18 @@ pub extern "C" fn shr_inner_collect(
     requires ready { Ready (geometry n p s w e limit) bad.now page.old bytes.old marks.old }
     requires counts_len { (length counts.old ≡ n) × (order.old ≡ zeros n) }
 {
-    let geo = Geometry {
-        n,
-        p,
-        s,
-        w,
-        e,
-        limit,
+    let geo = Geometry::of(n, p, s, w, e, limit);
+    let mut collection = Collecting {
+        passes: Passes::One,
+        bytes,
+        marks,
+        fuse,
+        counts,
+        bad,
+        page,
+        order,
     };
-    moved(page_gc::collect(geo, bad, page, order, tab, used, bytes, marks, counts, fuse))
+    on_packed(geo, tab, used, &mut collection).unwrap_or(REFUSED)
 }
 
 #[unsafe(no_mangle)]
@@ -106,13 +107,6 @@ pub extern "C" fn shr_sound(
     requires good { Good (geometry n p s w e limit) }
     requires tab_len { (length tab.now ≡ tab_words (geometry n p s w e limit)) × (length used.now ≡ pages (geometry n p s w e limit)) × (seen.old ≡ zeros (seen_scratch (geometry n p s w e limit))) }
 {
-    let geo = Geometry {
-        n,
-        p,
-        s,
-        w,
-        e,
-        limit,
-    };
+    let geo = Geometry::of(n, p, s, w, e, limit);
     sound::sound(geo, tab, used, seen)
 }

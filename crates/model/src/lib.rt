@@ -2,7 +2,7 @@
 #![tactic(auto)]
 
 ghost use Rattle.std.specs.Prelude.{◌≡◌, ◌<◌, ◌≤◌, ◌^◌, eqb};
-ghost use Rattle.model.specs.Numbers.{Good, empty, addr, seg_of, page_of};
+ghost use Rattle.model.specs.Numbers.{Good, geometry, empty, addr, seg_of, page_of};
 ghost use Rattle.model.specs.Tables.{tab_words, pages};
 ghost use Rattle.model.specs.PageMap.{spot};
 
@@ -44,6 +44,19 @@ impl PhysicalAddress {
 }
 
 impl Geometry {
+    pub fn of(n: usize, p: usize, s: usize, w: usize, e: usize, limit: usize) -> Self
+        ensures { result ≡ geometry n p s w e limit }
+    {
+        Geometry {
+            n,
+            p,
+            s,
+            w,
+            e,
+            limit,
+        }
+    }
+
     // 2 to the power w: how many addresses a segment has.
     pub fn span(self) -> usize
         requires { self.w ≤ 16 }

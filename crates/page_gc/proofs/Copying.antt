@@ -1,135 +1,156 @@
 -- The drain's loop, by what the inner write ensures: the definition from the start ends as the definition from here.
-use Prim.Native.Nat.{ℕ, suc, ◌<◌}
+use Prim.Native.Nat.{ℕ, suc, ◌+◌, ◌-◌, ◌<◌, ◌≤◌}
+use native.Mathlib.Nat.{sub-zero}
 use native.Mathlib.Omega.{arith}
 use mathlib.Core.Path.{◌≡◌, refl, sym, ap, subst, ◌∙◌}
 use mathlib.Core.Logic.{◌≢◌}
 use mathlib.Core.List.{List, []}
-use lib.ListN.{length, length-replicate}
+use mathlib.Core.Bool.{true}
+use lib.ListN.{length-replicate}
+use Rattle.std.specs.Result.{MatchResult, is_ok}
 use Rattle.model.specs.declared.Geometry.{Geometry}
-use Rattle.model.specs.Numbers.{Answer}
-use Rattle.model.specs.Numbers.{Ok, Err}
 use Rattle.model.specs.declared.Cause.{Cause}
 use Rattle.model.specs.Lists.{zeros}
-use Rattle.model.specs.Numbers.{empty}
-use Rattle.model.specs.Tables.{Tables, at, view}
-use Rattle.model.specs.Sound.{Mapped}
-use Rattle.model.specs.Device.{State, state, flash}
-use Rattle.model.specs.Contract.{Held, Ready, Done}
+use Rattle.model.specs.Numbers.{Answer, Ok, Err, empty}
+use Rattle.model.specs.Tables.{Tables, at}
+use Rattle.model.specs.Sound.{Sound, Mapped}
+use Rattle.model.specs.Device.{State, state}
+use Rattle.model.specs.Contract.{Done}
 use Rattle.model.specs.PageWrite.{write_page}
-use Rattle.model.specs.PageGc.{of_copy, copy_answer, last_of, drain}
+use Rattle.model.specs.PageGc.{of_copy, last_of, drain}
 use Rattle.model.proofs.Working.{Counted}
+use Rattle.model.proofs.Official.{sound_counted, counted_sound}
 use Rattle.model.proofs.Unlink.{mapped_lt}
 use Rattle.model.proofs.Write.{Wrote, wrote}
 use Rattle.model.proofs.Collect.{last_in}
 use Rattle.model.proofs.Turns.{drain_more, drain_stops, drain-empty}
-use Rattle.model.proofs.Held.{counted, held_by}
+use Rattle.tables.specs.declared.TablesMut.{TablesMut}
+use Rattle.tables.specs.Parts.{tables_of, Same}
+use Rattle.tables.proofs.Parts.{sized}
+use Rattle.device.specs.declared.FlashMut.{FlashMut}
+use Rattle.device.specs.Lent.{flash_of}
+use Rattle.device.specs.Lent.{Same as SameFlash}
+use Rattle.device.proofs.Lent.{fits}
 
--- a copy's answer that is no count was a write's refusal
-pub copy_refused : (a : Answer) (x : Cause) → copy_answer a ≡ Err x → (c : Cause) × (a ≡ Err c) × (x ≡ of_copy c)
-copy_refused (Ok k) x e = absurd (let z : ◌≡◌ {A = ℕ} 0 1 = cc in omega arith)
-copy_refused (Err c) x e = (c, refl, cc)
+-- what a copy's answer says of the write's: it was refused, or done
+copy_refused : (a : Answer) {x : Cause} → MatchResult a (λ k. ◌≡◌ {A = Answer} (Err x) (Ok k)) (λ e. x ≡ of_copy e)
+    → (e : Cause) × (a ≡ Err e) × (x ≡ of_copy e)
+copy_refused (Ok k) {x} h = let z : ◌≡◌ {A = Answer} (Err x) (Ok k) = h in cc
+copy_refused (Err e) h = (e, refl, h)
 
-pub copy_moved : (a : Answer) (k : ℕ) → copy_answer a ≡ Ok k → a ≡ Ok k
-copy_moved (Ok j) k e = e
-copy_moved (Err c) k e = absurd (let z : ◌≡◌ {A = ℕ} 0 1 = cc in omega arith)
+copy_moved : (a : Answer) → true ≡ is_ok a → (k : ℕ) × (a ≡ Ok k)
+copy_moved (Ok k) h = (k, refl)
+copy_moved (Err e) h = cc
 
-module _ (G : Geometry) (bad : List ℕ) (v : ℕ) where
-  abbrev state_of : (w u b m c : List ℕ) (f : ℕ) → State
-  state_of w u b m c f = state (view G w u) (flash b m c f)
+-- before a copy of the drain of v, which began with t₀ and f₀: i of the copies that the definition allows were made
+pub record Copying (bad : List ℕ) (v : ℕ) (t₀ : TablesMut) (f₀ : FlashMut) (t : TablesMut) (f : FlashMut) (i : ℕ) : Type 0 where
+  pub same : Same t₀ t
+  pub same_flash : SameFlash f₀ f
+  pub geometry : f₀.geo ≡ t₀.geo
+  pub seg : v < t₀.geo.n
+  pub counted : Counted t₀.geo (tables_of t)
+  pub full : at t.free.now v ≡ 0
+  pub flagged : at t.flags.now v ≡ 1
+  pub goes : (c : List ℕ) (r : Answer) (s : State) → Done (drain t₀.geo bad (t₀.geo.p - i) v (state (tables_of t) (flash_of f c))) r s
+      → Done (drain t₀.geo bad t₀.geo.p v (state (tables_of t₀) (flash_of f₀ c))) r s
 
-  -- before a copy: j of the copies that the definition allows are left
-  pub record Copying (w₀ u₀ b₀ m₀ : List ℕ) (f₀ : ℕ) (w u b m page : List ℕ) (f j : ℕ) : Type 0 where
-    pub seg : v < G.n
-    pub held : Held G w u
-    pub ready : Ready G bad page b m
-    pub full : at (view G w u).free v ≡ 0
-    pub flagged : at (view G w u).flags v ≡ 1
-    pub goes : (c : List ℕ) (r : Answer) (s : State) → Done (drain G bad j v (state_of w u b m c f)) r s → Done (drain G bad G.p v (state_of w₀ u₀ b₀ m₀ c f₀)) r s
+pub copying_start : (bad : List ℕ) (v : ℕ) (t : TablesMut) (f : FlashMut) → f.geo ≡ t.geo → Sound t.geo (tables_of t) → v < t.geo.n → at t.free.now v ≡ 0
+    → at t.flags.now v ≡ 1 → Copying bad v t f t f 0
+copying_start bad v t f e S seg z x =
+    record {
+      same = search;
+      same_flash = search;
+      geometry = e;
+      seg = seg;
+      counted = sound_counted t.geo (tables_of t) (sized t) S;
+      full = z;
+      flagged = x;
+      goes = λ c r s D. subst (λ j. Done (drain t.geo bad j v (state (tables_of t) (flash_of f c))) r s) (sub-zero t.geo.p) D;
+    }
 
-  pub copying_start : (w u b m page : List ℕ) (f : ℕ) → v < G.n → Held G w u → Ready G bad page b m → at (view G w u).free v ≡ 0 → at (view G w u).flags v ≡ 1
-      → Copying w u b m f w u b m page f G.p
-  copying_start w u b m page f hv H R z x = record { seg = hv; held = H; ready = R; full = z; flagged = x; goes = λ c r s D. D }
+module _ {bad : List ℕ} {v : ℕ} {t₀ : TablesMut} {f₀ : FlashMut} {t : TablesMut} {f : FlashMut} {i : ℕ} (C : Copying bad v t₀ f₀ t f i) where
+  abbrev G : Geometry
+  G = t₀.geo
 
-  module _ (w₀ u₀ b₀ m₀ : List ℕ) (f₀ : ℕ) (w u b m page : List ℕ) (f j : ℕ) where
-    -- the list is empty
-    pub copying_empty : Copying w₀ u₀ b₀ m₀ f₀ w u b m page f j → at (view G w u).lens v ≡ 0 → (c : List ℕ)
-        → Done (drain G bad G.p v (state_of w₀ u₀ b₀ m₀ c f₀)) (Ok 0) (state_of w u b m c f)
-    copying_empty C e c =
-        C.goes c (Ok 0) (state_of w u b m c f)
-        (subst (λ o. Done o (Ok 0) (state_of w u b m c f)) (sym (drain-empty G bad j v (state_of w u b m c f) e)) (record { answer = refl; left = refl }))
+  abbrev T : Tables
+  T = tables_of t
 
-    -- a copy of the last page l
-    module _ (C : Copying w₀ u₀ b₀ m₀ f₀ w u b m page f (suc j)) (some : at (view G w u).lens v ≢ 0) (l : ℕ) (last : l ≡ last_of G v (view G w u)) where
-      S : Counted G (view G w u)
-      S = counted C.held
+  pub sound_here : Sound t.geo (tables_of t)
+  sound_here = rw C.same.geo (counted_sound G T C.counted)
 
-      mapped : Mapped (view G w u) (last_of G v (view G w u))
-      mapped = (last_in G v C.seg (view G w u) S some).0
+  -- the list is empty
+  pub copying_empty : at t.lens.now v ≡ 0 → (c : List ℕ) → Done (drain G bad G.p v (state (tables_of t₀) (flash_of f₀ c))) (Ok 0) (state T (flash_of f c))
+  copying_empty e c =
+      C.goes c (Ok 0) (state T (flash_of f c))
+      (subst (λ o. Done o (Ok 0) (state T (flash_of f c))) (sym (drain-empty G bad (G.p - i) v (state T (flash_of f c)) e)) (record { answer = refl; left = refl }))
 
-      pub known : l < G.e
-      known =
-          subst (λ x. x < G.e) (sym last)
-          (subst (λ k. last_of G v (view G w u) < k) S.sized.map (mapped_lt (view G w u).map (last_of G v (view G w u)) empty mapped))
+  -- all copies that are allowed were made: on sound tables the list is empty then
+  pub copying_end : G.p ≤ i → (c : List ℕ) → Done (drain G bad G.p v (state (tables_of t₀) (flash_of f₀ c))) (Ok 0) (state T (flash_of f c))
+  unfolding drain
+  copying_end h c =
+      let none : 0 ≡ G.p - i = omega arith in
+      C.goes c (Ok 0) (state T (flash_of f c))
+      (subst (λ j. Done (drain G bad j v (state T (flash_of f c))) (Ok 0) (state T (flash_of f c))) none (record { answer = refl; left = refl }))
 
-      -- its write of no bytes answered a and left w' .. f'
-      module _ (a : Answer) (w' u' b' m' : List ℕ) (f' : ℕ)
-          (done : (c : List ℕ) → Done (write_page G bad l 0 [] (state_of w u b m c f)) a (state_of w' u' b' m' c f')) where
-        Wr : Wrote G (state_of w u b m (zeros G.n) f) l 0 [] (write_page G bad l 0 [] (state_of w u b m (zeros G.n) f))
-        Wr =
-            wrote G C.held.good bad (state_of w u b m (zeros G.n) f) S
-            (record { bytes = C.ready.bytes_size; marks = C.ready.marks_size; counts = length-replicate G.n 0 })
-            l 0 [] known (omega arith)
+  -- a copy of the last page l
+  module _ (some : at t.lens.now v ≢ 0) (l : ℕ) (last : l ≡ last_of G v T) where
+    mapped : Mapped T (last_of G v T)
+    mapped = (last_in G v C.seg T C.counted some).0
 
-        tables_are : view G w' u' ≡ (write_page G bad l 0 [] (state_of w u b m (zeros G.n) f)).st.tab
-        tables_are = ap (λ (s : State). s.tab) (done (zeros G.n)).left
+    pub known : l < G.e
+    known =
+        subst (λ x. x < G.e) (sym last)
+        (subst (λ k. last_of G v T < k) C.counted.sized.map (mapped_lt T.map (last_of G v T) empty mapped))
 
-        pub held_after : length w' ≡ length w → Held G w' u'
-        held_after e = held_by C.held e tables_are Wr.sound
+    -- its write of no bytes answered a and left t' and f'
+    module _ (a : Answer) (t' : TablesMut) (f' : FlashMut) (S : Same t t') (F : SameFlash f f')
+        (done : (c : List ℕ) → Done (write_page G bad l 0 [] (state T (flash_of f c))) a (state (tables_of t') (flash_of f' c))) where
+      abbrev st : State
+      st = state T (flash_of f (zeros G.n))
 
-        full_after : at (view G w' u').free v ≡ 0
-        full_after = ap (λ (t : Tables). at t.free v) tables_are ∙ (Wr.busy v C.full C.flagged).full
+      Wr : Wrote G st l 0 [] (write_page G bad l 0 [] st)
+      Wr = wrote G t₀.good bad st C.counted (fits f (C.same_flash.geo ∙ C.geometry) (length-replicate G.n 0)) l 0 [] known (omega arith)
 
-        flagged_after : at (view G w' u').flags v ≡ 1
-        flagged_after = ap (λ (t : Tables). at t.flags v) tables_are ∙ (Wr.busy v C.full C.flagged).flagged
+      tables_are : tables_of t' ≡ (write_page G bad l 0 [] st).st.tab
+      tables_are = ap (λ (s : State). s.tab) (done (zeros G.n)).left
 
-        pub ready_after : (page' : List ℕ) → length b' ≡ length b → length m' ≡ length m → page' ≡ zeros G.s → Ready G bad page' b' m'
-        ready_after page' eb em ep =
-            record { bytes_size = eb ∙ C.ready.bytes_size; marks_size = em ∙ C.ready.marks_size; bad_size = C.ready.bad_size; page_clean = ep }
+      pub sound_after : Sound t'.geo (tables_of t')
+      sound_after = rw (S.geo ∙ C.same.geo, tables_are) (counted_sound G _ Wr.sound)
 
-        done_last : (c : List ℕ) → Done (write_page G bad (last_of G v (view G w u)) 0 [] (state_of w u b m c f)) a (state_of w' u' b' m' c f')
-        done_last c = subst (λ x. Done (write_page G bad x 0 [] (state_of w u b m c f)) a (state_of w' u' b' m' c f')) last (done c)
+      done_last : (c : List ℕ) → Done (write_page G bad (last_of G v T) 0 [] (state T (flash_of f c))) a (state (tables_of t') (flash_of f' c))
+      done_last c = subst (λ x. Done (write_page G bad x 0 [] (state T (flash_of f c))) a (state (tables_of t') (flash_of f' c))) last (done c)
+
+      module _ (more : i < G.p) where
+        one_more : suc (G.p - (i + 1)) ≡ G.p - i
+        one_more = omega arith
+
+        from : (c : List ℕ) (r : Answer) (s : State) → Done (drain G bad (suc (G.p - (i + 1))) v (state T (flash_of f c))) r s
+            → Done (drain G bad G.p v (state (tables_of t₀) (flash_of f₀ c))) r s
+        from c r s D = C.goes c r s (subst (λ j. Done (drain G bad j v (state T (flash_of f c))) r s) one_more D)
 
         -- it was done: one copy less is left
-        pub copying_more : (page' : List ℕ) (k : ℕ) → a ≡ Ok k → length w' ≡ length w → length b' ≡ length b → length m' ≡ length m → page' ≡ zeros G.s
-            → Copying w₀ u₀ b₀ m₀ f₀ w' u' b' m' page' f' j
-        copying_more page' k e ew eb em ep =
+        pub copying_more : true ≡ is_ok a → Copying bad v t₀ f₀ t' f' (i + 1)
+        copying_more h =
+            let m = copy_moved a h in
             record {
+              same = search;
+              same_flash = search;
+              geometry = C.geometry;
               seg = C.seg;
-              held = held_after ew;
-              ready = ready_after page' eb em ep;
-              full = full_after;
-              flagged = flagged_after;
+              counted = rw tables_are Wr.sound;
+              full = ap (λ (x : Tables). at x.free v) tables_are ∙ (Wr.busy v C.full C.flagged).full;
+              flagged = ap (λ (x : Tables). at x.flags v) tables_are ∙ (Wr.busy v C.full C.flagged).flagged;
               goes = λ c r s D.
-                  C.goes c r s
-                  (drain_more G bad v (state_of w u b m c f) mapped some j k r s (sym (done_last c).answer ∙ e)
-                  (subst (λ x. Done (drain G bad j v x) r s) (done_last c).left D));
+                  from c r s
+                  (drain_more G bad v (state T (flash_of f c)) mapped some (G.p - (i + 1)) m.0 r s (sym (done_last c).answer ∙ m.1)
+                  (subst (λ x. Done (drain G bad (G.p - (i + 1)) v x) r s) (done_last c).left D));
             }
 
         -- it was refused: the drain ends there
-        stops : (x : Cause) → a ≡ Err x → (c : List ℕ)
-            → Done (drain G bad G.p v (state_of w₀ u₀ b₀ m₀ c f₀)) (Err (of_copy x)) (state_of w' u' b' m' c f')
-        stops x e c =
-            C.goes c (Err (of_copy x)) (state_of w' u' b' m' c f')
-            (drain_stops G bad v (state_of w u b m c f) mapped some j x (Err (of_copy x)) (state_of w' u' b' m' c f') (sym (done_last c).answer ∙ e) refl (done_last c).left)
-
-        pub copying_stops : (r : Answer) (y : Cause) → r ≡ copy_answer a → r ≡ Err y → (c : List ℕ)
-            → Done (drain G bad G.p v (state_of w₀ u₀ b₀ m₀ c f₀)) r (state_of w' u' b' m' c f')
-        copying_stops r y p q c =
-            let z : (x : Cause) × (a ≡ Err x) × (y ≡ of_copy x) = copy_refused a y (sym p ∙ q) in
-            subst (λ o. Done (drain G bad G.p v (state_of w₀ u₀ b₀ m₀ c f₀)) o (state_of w' u' b' m' c f')) (sym (q ∙ ap Err z.2)) (stops z.0 z.1 c)
-
-  -- all copies that are allowed were made: on sound tables the list is empty then
-  pub copying_end : (w₀ u₀ b₀ m₀ : List ℕ) (f₀ : ℕ) (w u b m page : List ℕ) (f : ℕ) → Copying w₀ u₀ b₀ m₀ f₀ w u b m page f 0 → (c : List ℕ)
-      → Done (drain G bad G.p v (state_of w₀ u₀ b₀ m₀ c f₀)) (Ok 0) (state_of w u b m c f)
-  unfolding drain
-  copying_end w₀ u₀ b₀ m₀ f₀ w u b m page f C c = C.goes c (Ok 0) (state_of w u b m c f) (record { answer = refl; left = refl })
+        pub copying_stops : {x : Cause} → MatchResult a (λ k. ◌≡◌ {A = Answer} (Err x) (Ok k)) (λ e. x ≡ of_copy e) → (c : List ℕ)
+            → Done (drain G bad G.p v (state (tables_of t₀) (flash_of f₀ c))) (Err x) (state (tables_of t') (flash_of f' c))
+        copying_stops {x} h c =
+            let m = copy_refused a h in
+            from c (Err x) (state (tables_of t') (flash_of f' c))
+            (drain_stops G bad v (state T (flash_of f c)) mapped some (G.p - (i + 1)) m.0 (Err x) (state (tables_of t') (flash_of f' c))
+            (sym (done_last c).answer ∙ m.1) (ap Err m.2) (done_last c).left)

@@ -1,3 +1,2 @@
 pub mod Copying
 pub mod Passes
-pub mod Wiping

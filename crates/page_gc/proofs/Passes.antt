@@ -1,141 +1,174 @@
 -- A pass, and the list's loop, by what their parts ensure.
-use Prim.Native.Nat.{ℕ, suc, ◌+◌, ◌-◌, ◌<◌, ◌≤◌}
+use Prim.Native.Nat.{ℕ, suc, ◌+◌, ◌-◌, ◌<◌}
 use native.Mathlib.Nat.{sub-zero}
 use native.Mathlib.Numerals.{add-one}
 use native.Mathlib.Omega.{arith}
 use mathlib.Core.Path.{◌≡◌, refl, sym, ap, subst, ◌∙◌}
-use mathlib.Core.Bool.{Bool, true, false, cond}
 use mathlib.Core.Logic.{◌≢◌}
 use mathlib.Core.List.{List}
 use lib.ListN.{length}
 use Rattle.model.specs.declared.Geometry.{Geometry}
-use Rattle.model.specs.Numbers.{Answer}
-use Rattle.model.specs.Numbers.{Ok, Err}
 use Rattle.model.specs.declared.Cause.{Cause}
 use Rattle.model.specs.declared.Cause.TheVariants.{Erase}
-use Rattle.model.specs.Lists.{zeros}
-use Rattle.model.specs.Tables.{Tables, at, view}
-use Rattle.model.specs.Device.{Flash, State, state, flash, may_erase, erased}
-use Rattle.model.specs.Contract.{Held, Ready, Done}
-use Rattle.model.specs.PageGc.{victim, taken, reset, unflag, drain, collect, collect_more}
+use Rattle.model.specs.Numbers.{Answer, Ok, Err}
+use Rattle.model.specs.Tables.{Tables, at}
+use Rattle.model.specs.Sound.{Sound}
+use Rattle.model.specs.Device.{Flash, State, state, may_erase, erased}
+use Rattle.model.specs.Contract.{Done}
+use Rattle.model.specs.PageGc.{victim, taken, reset, unflag, drain, finish_of, collect, collect_more}
+use Rattle.model.proofs.Working.{Counted}
+use Rattle.model.proofs.Official.{sound_counted, counted_sound}
 use Rattle.model.proofs.Taken.{taken_sound, victim_seg, victim_full, victim_flag}
 use Rattle.model.proofs.Collect.{Kept, collected}
-use Rattle.model.proofs.Turns.{collect_none, collect_ends, finish-done, finish-refused, list_stops, list_ends, list_more, list_none}
-use Rattle.model.proofs.Held.{counted, held_by}
+use Rattle.model.proofs.Turns.{collect_none, collect_stops, collect_ends, finish-done, finish-refused, list_stops, list_ends, list_more, list_none}
+use Rattle.tables.specs.declared.TablesMut.{TablesMut}
+use Rattle.tables.specs.Parts.{tables_of, Same}
+use Rattle.tables.proofs.Parts.{sized}
+use Rattle.device.specs.declared.FlashMut.{FlashMut}
+use Rattle.device.specs.Lent.{flash_of}
+use Rattle.device.specs.Lent.{Same as SameFlash}
 use Rattle.device.specs.Tried.{Tried}
+use Rattle.device.proofs.Lent.{fits}
+use Rattle.device.proofs.Tried.{tried_ok, tried_err}
 
-module _ (G : Geometry) (bad : List ℕ) where
-  -- the victim taken
-  pub record Took (v : ℕ) (w u : List ℕ) : Type 0 where
-    pub held : Held G w u
-    pub seg : v < G.n
-    pub full : at (view G w u).free v ≡ 0
-    pub flagged : at (view G w u).flags v ≡ 1
+-- the victim v taken from t, which left t'
+module _ (t : TablesMut) (S : Sound t.geo (tables_of t)) (some : 0 < t.queued.now) (t' : TablesMut) (same : Same t t')
+    (rest : tables_of t' ≡ taken (tables_of t)) where
+  counted : Counted t.geo (tables_of t)
+  counted = sound_counted t.geo (tables_of t) (sized t) S
 
-  pub took : (w u : List ℕ) → Held G w u → 0 < (view G w u).queued → (v : ℕ) → v ≡ victim (view G w u) → (w' : List ℕ) → length w' ≡ length w
-      → view G w' u ≡ taken (view G w u) → Took v w' u
-  took w u H some v e w' ew q =
-      record {
-        held = held_by H ew q (taken_sound G (view G w u) (counted H) some);
-        seg = subst (λ x. x < G.n) (sym e) (victim_seg G (view G w u) (counted H) some);
-        full = ap (λ (t : Tables). at t.free v) q ∙ ap (at (view G w u).free) e ∙ victim_full G (view G w u) (counted H) some;
-        flagged = ap (λ (t : Tables). at t.flags v) q ∙ ap (at (view G w u).flags) e ∙ victim_flag G (view G w u) (counted H) some;
-      }
+  pub took_sound : Sound t'.geo (tables_of t')
+  took_sound = rw (same.geo, rest) (counted_sound t.geo _ (taken_sound t.geo (tables_of t) counted some))
 
-  pub drained_is : (t t' : Tables) (f : Flash) (v : ℕ) (r : Answer) (s : State) → v ≡ victim t → t' ≡ taken t → Done (drain G bad G.p v (state t' f)) r s
-      → Done (drain G bad G.p (victim t) (state (taken t) f)) r s
-  drained_is t t' f v r s e q D =
-      subst (λ x. Done (drain G bad G.p x (state (taken t) f)) r s) e (subst (λ x. Done (drain G bad G.p v (state x f)) r s) q D)
+  pub took_victim : {v : ℕ} → v ≡ victim (tables_of t) → (v < t'.geo.n) × (at t'.free.now v ≡ 0) × (at t'.flags.now v ≡ 1)
+  took_victim {v} e = (
+    rw (same.geo, e) (victim_seg t.geo (tables_of t) counted some),
+    ap (λ (x : Tables). at x.free v) rest ∙ ap (at t.free.now) e ∙ victim_full t.geo (tables_of t) counted some,
+    ap (λ (x : Tables). at x.flags v) rest ∙ ap (at t.flags.now) e ∙ victim_flag t.geo (tables_of t) counted some,
+  )
 
+module _ (G : Geometry) (bad : List ℕ) (st : State) where
   -- nothing queued
-  pub pass_none : (st : State) → st.tab.queued ≡ 0 → Done (collect G bad st) (Ok 0) st
-  pass_none st e = subst (λ o. Done o (Ok 0) st) (sym (collect_none G bad st e)) (record { answer = refl; left = refl })
+  pub pass_none : st.tab.queued ≡ 0 → Done (collect G bad st) (Ok 0) st
+  pass_none e = subst (λ o. Done o (Ok 0) st) (sym (collect_none G bad st e)) (record { answer = refl; left = refl })
 
-  -- the victim's list is drained, and the erase decides
-  module _ (st : State) (some : st.tab.queued ≢ 0) (k : ℕ) (s : State)
-      (drained : Done (drain G bad G.p (victim st.tab) (state (taken st.tab) st.flash)) (Ok k) s)
-      (ok : Bool) (f : Flash) (tried : Tried (may_erase G (victim st.tab) s.flash) (erased G (victim st.tab) s.flash) s.flash ok f) where
-    abbrev v : ℕ
-    v = victim st.tab
+  -- the victim v was taken, which left t₁: its list is drained
+  module _ (some : st.tab.queued ≢ 0) {v : ℕ} (first : v ≡ victim st.tab) {t₁ : Tables} (rest : t₁ ≡ taken st.tab) {r : Answer} {s : State}
+      (drained : Done (drain G bad G.p v (state t₁ st.flash)) r s) where
+    by_definition : Done (drain G bad G.p (victim st.tab) (state (taken st.tab) st.flash)) r s
+    by_definition =
+        subst (λ x. Done (drain G bad G.p x (state (taken st.tab) st.flash)) r s) first
+        (subst (λ x. Done (drain G bad G.p v (state x st.flash)) r s) rest drained)
 
-    after_is : {x : Bool} → ok ≡ x → f ≡ cond x (erased G v s.flash) s.flash
-    after_is {x} e = tried.left ∙ ap (λ (y : Bool). cond y (erased G v s.flash) s.flash) (sym tried.ok ∙ e)
+    -- a copy was refused
+    pub pass_stops : (c : Cause) → r ≡ Err c → Done (collect G bad st) r s
+    pass_stops c e = collect_stops G bad st some c r s e by_definition
 
-    pub pass_refused : ok ≡ false → {t : Tables} → t ≡ s.tab → Done (collect G bad st) (Err Erase) (state t f)
-    pass_refused e {t} q =
-        collect_ends G bad st some k (Err Erase) s (state t f) drained
-        (subst (λ o. Done o (Err Erase) (state t f)) (sym (finish-refused G v s (sym tried.ok ∙ e))) (record { answer = refl; left = rw (q, after_is e) }))
+    -- all were done: the erase decides
+    module _ (k : ℕ) (moved : r ≡ Ok k) where
+      ends : {a : Answer} {s' : State} → Done (finish_of G (victim st.tab) s) a s' → Done (collect G bad st) a s'
+      ends {a} {s'} D =
+          collect_ends G bad st some k a s s'
+          (subst (λ x. Done (drain G bad G.p (victim st.tab) (state (taken st.tab) st.flash)) x s) moved by_definition) D
 
-    pub pass_done : ok ≡ true → {t : Tables} → t ≡ unflag G v (reset G v s.tab) → Done (collect G bad st) (Ok 0) (state t f)
-    pass_done e {t} q =
-        collect_ends G bad st some k (Ok 0) s (state t f) drained
-        (subst (λ o. Done o (Ok 0) (state t f)) (sym (finish-done G v s (sym tried.ok ∙ e))) (record { answer = refl; left = rw (q, after_is e) }))
+      pub pass_refused : {e : Cause} {f : Flash} → Tried (may_erase G v s.flash) Erase (erased G v s.flash) s.flash (Err e) f
+          → Done (collect G bad st) (Err e) (state s.tab f)
+      pass_refused {e} {f} tried =
+          let t = tried_err _ (rw first at tried) in
+          ends (subst (λ o. Done o (Err e) (state s.tab f)) (sym (finish-refused G (victim st.tab) s t.0)) (record { answer = ap Err t.1; left = rw t.2 }))
 
-  -- a pass keeps the tables sound
-  pub pass_held : (w u b m c page : List ℕ) (f : ℕ) → Held G w u → Ready G bad page b m → length c ≡ G.n → (r : Answer) (w' u' : List ℕ) (f' : Flash)
-      → length w' ≡ length w → Done (collect G bad (state (view G w u) (flash b m c f))) r (state (view G w' u') f') → Held G w' u'
-  pass_held w u b m c page f H R ec r w' u' f' ew D =
-      let K : Kept G (state (view G w u) (flash b m c f)) (collect G bad (state (view G w u) (flash b m c f))) =
-      collected G H.good bad (state (view G w u) (flash b m c f)) (counted H) (record { bytes = R.bytes_size; marks = R.marks_size; counts = ec }) in
-      held_by H ew (ap (λ (s : State). s.tab) D.left) K.sound
+      pub pass_done : {t : Tables} {f : Flash} → Tried (may_erase G v s.flash) Erase (erased G v s.flash) s.flash (Ok tt) f → t ≡ unflag G v (reset G v s.tab)
+          → Done (collect G bad st) (Ok 0) (state t f)
+      pass_done {t} {f} tried q =
+          let d = tried_ok _ (rw first at tried) in
+          let q' = rw first at q in
+          ends (subst (λ o. Done o (Ok 0) (state t f)) (sym (finish-done G (victim st.tab) s d.0)) (record { answer = refl; left = rw (q', d.1) }))
 
-  -- the list's loop: k are counted, and the definition from the start ends as the definition from here
-  pub record Listing (m : ℕ) (w₀ u₀ b₀ m₀ c₀ : List ℕ) (f₀ : ℕ) (w u b x c page order : List ℕ) (f k : ℕ) : Type 0 where
-    pub held : Held G w u
-    pub ready : Ready G bad page b x
-    pub counts : length c ≡ G.n
-    pub clean : order ≡ zeros G.n
-    pub most : k ≤ m
-    pub goes : (r : Answer) (s : State) → Done (collect_more G bad (m - k) k (state (view G w u) (flash b x c f))) r s
-        → Done (collect_more G bad m 0 (state (view G w₀ u₀) (flash b₀ m₀ c₀ f₀))) r s
+-- a pass keeps the tables sound
+pub pass_sound : (bad : List ℕ) (t : TablesMut) (f : FlashMut) (c : List ℕ) → Sound t.geo (tables_of t) → f.geo ≡ t.geo → length c ≡ t.geo.n
+    → (t' : TablesMut) {r : Answer} {f' : Flash}
+    → t'.geo ≡ t.geo → Done (collect t.geo bad (state (tables_of t) (flash_of f c))) r (state (tables_of t') f') → Sound t'.geo (tables_of t')
+pass_sound bad t f c S e h t' {r} {f'} g D =
+    let st : State = state (tables_of t) (flash_of f c) in
+    let K : Kept t.geo st (collect t.geo bad st) = collected t.geo t.good bad st (sound_counted t.geo (tables_of t) (sized t) S) (fits f e h) in
+    let q : tables_of t' ≡ (collect t.geo bad st).st.tab = ap (λ (s : State). s.tab) D.left in
+    rw (g, q) (counted_sound t.geo _ K.sound)
 
-  pub listing_start : (m : ℕ) (w u b x c page order : List ℕ) (f : ℕ) → Held G w u → Ready G bad page b x → length c ≡ G.n → order ≡ zeros G.n
-      → Listing m w u b x c f w u b x c page order f 0
-  listing_start m w u b x c page order f H R e o =
-      record {
-        held = H;
-        ready = R;
-        counts = e;
-        clean = o;
-        most = omega arith;
-        goes = λ r s D. subst (λ j. Done (collect_more G bad j 0 (state (view G w u) (flash b x c f))) r s) (sub-zero m) D;
-      }
+-- the list's loop, which began with t₀, f₀ and c₀: k are counted, and the definition from the start ends as the definition from here
+pub record Listing (bad : List ℕ) (m : ℕ) (t₀ : TablesMut) (f₀ : FlashMut) (c₀ : List ℕ) (t : TablesMut) (f : FlashMut) (c : List ℕ) (k : ℕ)
+    : Type 0 where
+  pub same : Same t₀ t
+  pub same_flash : SameFlash f₀ f
+  pub geometry : f.geo ≡ t.geo
+  pub sound : Sound t.geo (tables_of t)
+  pub counts : length c ≡ t.geo.n
+  pub goes : (r : Answer) (s : State) → Done (collect_more t₀.geo bad (m - k) k (state (tables_of t) (flash_of f c))) r s
+      → Done (collect_more t₀.geo bad m 0 (state (tables_of t₀) (flash_of f₀ c₀))) r s
 
-  module _ (m : ℕ) (w₀ u₀ b₀ m₀ c₀ : List ℕ) (f₀ : ℕ) (w u b x c page order : List ℕ) (f k : ℕ)
-      (L : Listing m w₀ u₀ b₀ m₀ c₀ f₀ w u b x c page order f k) where
-    abbrev st₀ : State
-    st₀ = state (view G w₀ u₀) (flash b₀ m₀ c₀ f₀)
+pub listing_start : (bad : List ℕ) (m : ℕ) (t : TablesMut) (f : FlashMut) (c : List ℕ) → f.geo ≡ t.geo → Sound t.geo (tables_of t) → length c ≡ t.geo.n
+    → Listing bad m t f c t f c 0
+listing_start bad m t f c e S h =
+    record {
+      same = search;
+      same_flash = search;
+      geometry = e;
+      sound = S;
+      counts = h;
+      goes = λ r s D. subst (λ j. Done (collect_more t.geo bad j 0 (state (tables_of t) (flash_of f c))) r s) (sub-zero m) D;
+    }
 
-    abbrev st : State
-    st = state (view G w u) (flash b x c f)
+module _ {bad : List ℕ} {m : ℕ} {t₀ : TablesMut} {f₀ : FlashMut} {c₀ : List ℕ} {t : TablesMut} {f : FlashMut}
+    {c : List ℕ} {k : ℕ} (L : Listing bad m t₀ f₀ c₀ t f c k) where
+  abbrev G : Geometry
+  G = t₀.geo
 
-    -- m are counted
-    pub listing_end : (k < m → ⊥) → Done (collect_more G bad m 0 st₀) (Ok k) st
-    listing_end n =
-        let e : 0 ≡ m - k = omega (arith, L.most) in
-        L.goes (Ok k) st (subst (λ j. Done (collect_more G bad j k st) (Ok k) st) e (list_none G bad k st))
+  abbrev st₀ : State
+  st₀ = state (tables_of t₀) (flash_of f₀ c₀)
 
-    -- one pass, which answered r and left st'
-    module _ (less : k < m) (r : Answer) (st' : State) (D : Done (collect G bad st) r st') where
-      left_is : suc (m - (k + 1)) ≡ m - k
-      left_is = omega arith
+  abbrev st : State
+  st = state (tables_of t) (flash_of f c)
 
-      from : (a : Answer) (s : State) → Done (collect_more G bad (suc (m - (k + 1))) k st) a s → Done (collect_more G bad m 0 st₀) a s
-      from a s E = L.goes a s (subst (λ j. Done (collect_more G bad j k st) a s) left_is E)
+  -- m are counted
+  pub listing_end : k ≡ m → Done (collect_more G bad m 0 st₀) (Ok m) st
+  listing_end e =
+      let none : 0 ≡ m - k = omega arith in
+      let last : Done (collect_more G bad 0 k st) (Ok k) st = list_none G bad k st in
+      L.goes (Ok m) st (subst (λ j. Done (collect_more G bad j k st) (Ok m) st) none (subst (λ x. Done (collect_more G bad 0 k st) (Ok x) st) e last))
 
-      -- refused
-      pub listing_stops : (e : Cause) → r ≡ Err e → Done (collect_more G bad m 0 st₀) r st'
-      listing_stops e q = from r st' (list_stops G bad (m - (k + 1)) k st e r st' q D)
+  -- one pass, which answered r and left t', f' and c'
+  module _ (less : k < m) (t' : TablesMut) (f' : FlashMut) (c' : List ℕ) {r : Answer}
+      (D : Done (collect G bad st) r (state (tables_of t') (flash_of f' c'))) where
+    abbrev st' : State
+    st' = state (tables_of t') (flash_of f' c')
 
-      module _ (y : ℕ) (q : r ≡ Ok y) where
-        D' : Done (collect G bad st) (Ok y) st'
-        D' = subst (λ a. Done (collect G bad st) a st') q D
+    one_more : suc (m - (k + 1)) ≡ m - k
+    one_more = omega arith
 
-        -- the queue is empty: stop before counting
-        pub listing_drained : st'.tab.queued ≡ 0 → Done (collect_more G bad m 0 st₀) (Ok k) st'
-        listing_drained e = from (Ok k) st' (list_ends G bad (m - (k + 1)) k st y st' D' e)
+    from : (a : Answer) (s : State) → Done (collect_more G bad (suc (m - (k + 1))) k st) a s → Done (collect_more G bad m 0 st₀) a s
+    from a s E = L.goes a s (subst (λ j. Done (collect_more G bad j k st) a s) one_more E)
 
-        -- else count one
-        pub listing_goes : st'.tab.queued ≢ 0 → (a : Answer) (s : State) → Done (collect_more G bad (m - (k + 1)) (k + 1) st') a s → Done (collect_more G bad m 0 st₀) a s
-        listing_goes n a s E =
-            from a s (list_more G bad (m - (k + 1)) k st y a st' s D' n (subst (λ j. Done (collect_more G bad (m - (k + 1)) j st') a s) (add-one k) E))
+    -- refused
+    pub listing_stops : (e : Cause) → r ≡ Err e → Done (collect_more G bad m 0 st₀) r st'
+    listing_stops e q = from r st' (list_stops G bad (m - (k + 1)) k st e r st' q D)
+
+    module _ (y : ℕ) (q : r ≡ Ok y) where
+      D' : Done (collect G bad st) (Ok y) st'
+      D' = subst (λ a. Done (collect G bad st) a st') q D
+
+      -- the queue is empty: stop before counting
+      pub listing_drained : t'.queued.now ≡ 0 → Done (collect_more G bad m 0 st₀) (Ok k) st'
+      listing_drained e = from (Ok k) st' (list_ends G bad (m - (k + 1)) k st y st' D' e)
+
+      -- else count one
+      pub listing_more : t'.queued.now ≢ 0 → Same t t' → SameFlash f f' → Sound t'.geo (tables_of t') → length c' ≡ length c
+          → Listing bad m t₀ f₀ c₀ t' f' c' (k + 1)
+      listing_more n S F sound long =
+          record {
+            same = search;
+            same_flash = search;
+            geometry = F.geo ∙ L.geometry ∙ sym S.geo;
+            sound = sound;
+            counts = long ∙ L.counts ∙ ap (λ (x : Geometry). x.n) (sym S.geo);
+            goes = λ a s E.
+                from a s (list_more G bad (m - (k + 1)) k st y a st' s D' n (subst (λ j. Done (collect_more G bad (m - (k + 1)) j st') a s) (add-one k) E));
+          }

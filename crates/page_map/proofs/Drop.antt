@@ -1,5 +1,5 @@
 -- Unlinking, invalidating and forgetting, by the words that the code reads. Assumes nothing.
-use Prim.Native.Nat.{ℕ, ◌*◌, ◌-◌, ◌≤◌, ◌<◌}
+use Prim.Native.Nat.{ℕ, ◌*◌, ◌-◌, ◌<◌}
 use native.Mathlib.Omega.{arith}
 use mathlib.Core.Path.{◌≡◌, sym, ap, ◌∙◌}
 use mathlib.Core.Logic.{◌≢◌}
@@ -13,11 +13,11 @@ use Rattle.model.specs.Tables.{Tables, at, word_of, region, list_of}
 use Rattle.model.specs.Sound.{Sound, Mapped}
 use Rattle.model.specs.PageMap.{unlink, enqueue, invalidate, forget}
 use Rattle.model.proofs.Working.{Counted}
-use Rattle.model.proofs.Slots.{mapped_lt, any_default}
+use Rattle.model.proofs.Slots.{any_default}
 use Rattle.model.proofs.Reading.{names_one, len≤, in_lists}
 use Rattle.model.proofs.Regions.{on_part}
 use Rattle.model.proofs.Official.{sound_counted}
-use Rattle.model.proofs.Unlink.{len_pos, unlink_sound}
+use Rattle.model.proofs.Unlink.{unlink_sound}
 use Rattle.model.proofs.Enqueue.{has_room}
 use Rattle.model.proofs.Forget.{forgot}
 use Rattle.tables.specs.declared.TablesMut.{TablesMut}
@@ -26,39 +26,26 @@ use Rattle.tables.proofs.Parts.{sized}
 use Rattle.page_map.specs.Parts.{Room}
 use Rattle.page_map.proofs.Parts.{without_alone, part_alone}
 
+-- sound tables in the working form
 pub counted : (t : TablesMut) → Sound t.geo (tables_of t) → Counted t.geo (tables_of t)
 counted t S = sound_counted t.geo (tables_of t) (sized t) S
 
 -- l is mapped into segment g
 module _ {G : Geometry} {t : Tables} (C : Counted G t) (l g : ℕ) (m : Mapped t l) (e : seg_of G (word_of t l) ≡ g) where
-  pub record Linked : Type 0 where
-    pub logical : l < G.e
-    pub seg : g < G.n
-    pub listed : 0 < at t.lens g
-    pub counted : 0 < at t.valid g
-    pub fits : at t.lens g ≤ G.p
-
-  pub linked : Linked
-  linked =
-      record {
-        logical = omega (arith, mapped_lt t.map l empty m, C.sized.map);
-        seg = omega (arith, C.seg< l m);
-        listed = len_pos G t C l g m e;
-        counted = omega (arith, len_pos G t C l g m e, C.lens≤ g);
-        fits = len≤ G t C g;
-      }
+  pub seg : g < G.n
+  seg = omega (arith, C.seg< l m)
 
   -- the list that it leaves: its words, of which l is one once, and zeros behind
   words : region (g * G.p) (at t.lens g) t.lists ≡ list_of G t g
-  words = sym (take-take (at t.lens g) G.p (drop (g * G.p) t.lists) linked.fits)
+  words = sym (take-take (at t.lens g) G.p (drop (g * G.p) t.lists) (len≤ G t C g))
 
   pub list_once : occ l (region (g * G.p) (at t.lens g) t.lists) ≡ 1
-  list_once = ap (occ l) words ∙ C.listed l g linked.seg ∙ names_one G (word_of t l) g m e
+  list_once = ap (occ l) words ∙ C.listed l g seg ∙ names_one G (word_of t l) g m e
 
   pub list_part : on_part (g * G.p) (at t.lens g) (without l) t.lists ≡ on_slot G.p g (without l) t.lists
   list_part =
-      part_alone (without l) (g * G.p) (at t.lens g) G.p t.lists linked.fits (in_lists C.sized linked.seg)
-      (without_alone l (at t.lens g) (G.p - at t.lens g) (region (g * G.p) G.p t.lists) (C.tails g linked.seg)
+      part_alone (without l) (g * G.p) (at t.lens g) G.p t.lists (len≤ G t C g) (in_lists C.sized seg)
+      (without_alone l (at t.lens g) (G.p - at t.lens g) (region (g * G.p) G.p t.lists) (C.tails g seg)
       (omega (arith, list_once, ap (occ l) words)))
 
 -- after it has left: free counts and flags are as they were, so the two tests give the three ways of invalidating
@@ -73,7 +60,7 @@ module _ (G : Geometry) (t : Tables) (l g : ℕ) (t' : Tables) (is : t' ≡ unli
   pub due_room : Counted G t → Mapped t l → seg_of G (word_of t l) ≡ g → at t'.free g ≡ 0 → at t'.flags g ≡ 0 → Room G t'
   due_room C m e f h =
       let U = unlink_sound G t C l g m e in
-      let room = has_room G (unlink G l g t) U g (linked C l g m e).seg (sym free_same ∙ f) (sym flag_same ∙ h) in
+      let room = has_room G (unlink G l g t) U g (seg C l g m e) (sym free_same ∙ f) (sym flag_same ∙ h) in
       rw is record { some = room; blank = U.behind }
 
   pub invalidate-due : at t'.free g ≡ 0 → at t'.flags g ≡ 0 → enqueue G g t' ≡ invalidate G l g t

@@ -53,13 +53,13 @@ find_is G bad t = rw sub-zero
 
 -- g is the i-th segment
 module _ (G : Geometry) (bad : List ℕ) (t : Tables) (i : ℕ) (h : i < G.n) where
-  abbrev pub nth : ℕ
+  abbrev nth : ℕ
   nth = (t.alloc + i) % G.n
 
   abbrev next : Found
   next = from G bad t (i + 1)
 
-  pub low : (t.alloc + i) % G.n < G.n
+  low : nth < G.n
   low = mod-lt _ (omega arith)
 
   -- one step, by the two tests
@@ -67,18 +67,18 @@ module _ (G : Geometry) (bad : List ℕ) (t : Tables) (i : ℕ) (h : i < G.n) wh
   unfolding find_from
   walk_step = rw (step h, add-one i, sub-zero) refl
 
-  pub walk_bad : at bad ((t.alloc + i) % G.n) ≢ 0 → from G bad t i ≡ from G bad t (i + 1)
+  pub walk_bad : at bad nth ≢ 0 → from G bad t i ≡ from G bad t (i + 1)
   walk_bad b = rw (walk_step, ne_eqb _ _ b)
 
-  pub walk_full : at bad ((t.alloc + i) % G.n) ≡ 0 → at t.free ((t.alloc + i) % G.n) ≡ 0 → from G bad t i ≡ from G bad t (i + 1)
+  pub walk_full : at bad nth ≡ 0 → at t.free nth ≡ 0 → from G bad t i ≡ from G bad t (i + 1)
   walk_full b f = rw (walk_step, eq-eqb _ _ b, f)
 
   abbrev first : ℕ
   first = G.p - at t.free nth
 
   -- the first-page rule: the marks below page p - free are set, that of page p - free is clear, so the search stops there
-  pub walk_here : Counted G t → at bad ((t.alloc + i) % G.n) ≡ 0 → at t.free ((t.alloc + i) % G.n) ≢ 0
-      → from G bad t i ≡ Some (spot ((t.alloc + i) % G.n) (G.p - at t.free ((t.alloc + i) % G.n)))
+  pub walk_here : Counted G t → at bad nth ≡ 0 → at t.free nth ≢ 0
+      → from G bad t i ≡ Some (spot nth (G.p - at t.free nth))
   walk_here C b f =
       let some : 0 < at t.free nth = omega arith in
       let in-it : first < G.p = omega (arith, C.free≤ nth) in

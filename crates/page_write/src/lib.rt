@@ -1,85 +1,68 @@
 // Step 4 of document 01: a page is found, built, spent and programmed; then the logical page is mapped to it.
 #![tactic(auto)]
 
-ghost use Rattle.std.specs.Prelude.{◌≡◌, List, ℕ, ◌+◌, ◌*◌, ◌<◌, ◌≤◌, length};
+ghost use Rattle.std.specs.Prelude.{◌≡◌, List, ℕ, ◌+◌, ◌<◌, ◌≤◌, length};
 ghost use Rattle.model.specs.Lists.{splice, zeros};
-ghost use Rattle.model.specs.Tables.{view, pages};
-ghost use Rattle.model.specs.Device.{Flash, flash, state};
-ghost use Rattle.model.specs.Contract.{Held, Ready, Done};
+ghost use Rattle.model.specs.Sound.{Sound};
+ghost use Rattle.model.specs.Device.{state};
+ghost use Rattle.model.specs.Contract.{Done};
 ghost use Rattle.model.specs.PageWrite.{old_page, write_page};
+ghost use Rattle.tables.specs.Parts.{tables_of, Same};
+ghost use Rattle.device.specs.Lent.{flash_of, Same as SameFlash};
 
-use model::{Answer, Cause, Found, Geometry, LogicalPage};
+use device::FlashMut;
+use model::{Answer, Cause, LogicalPage, PhysicalAddress};
+use tables::TablesMut;
 
-// "build s zero bytes, or the old page where mapped": the page is lent zero.
-fn old_page(geo: Geometry, l: LogicalPage, tab: &[u32], bytes: &[u8], page: &mut [u8])
-    requires by_index { (u : List ℕ) × Held geo tab.now u }
-    requires l_lt_e { (l.0 < geo.e) × (length bytes.now ≡ pages geo * geo.s) × (page.old ≡ zeros geo.s) }
-    ensures { (u : List ℕ) (f : Flash) → f.bytes ≡ bytes.now
-        → page.new ≡ old_page geo (state (view geo tab.now u) f) l.0 }
-{
-    let a = page_map::word_of(geo, l, tab);
-    if page_map::is_empty(a) {
-        return;
-    }
-    let g = page_map::segment_of(geo, a);
-    let k = page_map::page_of(geo, a);
-    device::read_page(geo, g, k, bytes, page);
-}
-
-// "lay the caller's bytes in"
+// "build s zero bytes, or the old page where mapped", and "lay the caller's bytes in": the page is lent zero.
 fn build_page(
-    geo: Geometry,
+    t: &TablesMut<'_>,
+    f: &FlashMut<'_>,
     l: LogicalPage,
     off: usize,
     xs: &[u8],
-    tab: &[u32],
-    bytes: &[u8],
     page: &mut [u8],
 )
-    requires by_index { (u : List ℕ) × Held geo tab.now u }
-    requires l_lt_e { (l.0 < geo.e) × (length bytes.now ≡ pages geo * geo.s) × (page.old ≡ zeros geo.s) }
-    requires xs_bound { off + length xs.now ≤ geo.s }
-    ensures { (u : List ℕ) (f : Flash) → f.bytes ≡ bytes.now
-        → page.new ≡ splice off xs.now (old_page geo (state (view geo tab.now u) f) l.0) }
+    requires one_geometry { f.now.geo ≡ t.now.geo }
+    requires sound { Sound t.now.geo (tables_of t.now) }
+    requires lent { page.old ≡ zeros t.now.geo.s }
+    requires in_page { (l.0 < t.now.geo.e) × (off + length xs.now ≤ t.now.geo.s) }
+    ensures { (c : List ℕ) → page.new ≡ splice off xs.now (old_page t.now.geo (state (tables_of t.now) (flash_of f.now c)) l.0) }
 {
-    old_page(geo, l, tab, bytes, page);
-    device::splice(page, off, xs);
+    let a = PhysicalAddress(t.map[l.0]);
+    if !a.is_empty() {
+        f.read_page(t.geo.spot_of(a), page);
+    }
+    page[off..off + xs.len()].copy_from_slice(xs);
 }
 
 // The bytes xs at offset off of logical page l. The scratch for a page is handed back zero on every way out.
 pub fn write_page(
-    geo: Geometry,
+    t: &mut TablesMut<'_>,
+    f: &mut FlashMut<'_>,
     l: LogicalPage,
     off: usize,
     xs: &[u8],
     bad: &[u8],
     page: &mut [u8],
-    tab: &mut [u32],
-    used: &mut [u8],
-    bytes: &mut [u8],
-    marks: &mut [u8],
-    fuse: &mut u64,
 ) -> Answer
-    requires held { Held geo tab.old used.old }
-    requires ready { Ready geo bad.now page.old bytes.old marks.old }
-    requires l_lt_e { (l.0 < geo.e) × (off + length xs.now ≤ geo.s) }
+    requires one_geometry { f.old.geo ≡ t.old.geo }
+    requires sound { Sound t.old.geo (tables_of t.old) }
+    requires lent { (length bad.now ≡ t.old.geo.n) × (page.old ≡ zeros t.old.geo.s) }
+    requires in_page { (l.0 < t.old.geo.e) × (off + length xs.now ≤ t.old.geo.s) }
+    ensures same { Same t.old t.new }
+    ensures same_flash { SameFlash f.old f.new }
     ensures done { (c : List ℕ) → Done
-        (write_page geo bad.now l.0 off xs.now
-        (state (view geo tab.old used.old) (flash bytes.old marks.old c fuse.old)))
-        result (state (view geo tab.new used.new) (flash bytes.new marks.new c fuse.new)) }
-    ensures clean { page.new ≡ zeros geo.s }
+        (write_page t.old.geo bad.now l.0 off xs.now (state (tables_of t.old) (flash_of f.old c)))
+        result (state (tables_of t.new) (flash_of f.new c)) }
+    ensures clean { page.new ≡ zeros t.old.geo.s }
 {
-    let found = page_map::find_page(geo, bad, tab, used);
-    let Found::At(g, k) = found else {
-        return Answer::Refused(Cause::NoRoom);
-    };
-    build_page(geo, l, off, xs, tab, bytes, page);
-    page_map::spend(geo, g, k, tab, used);
-    let ok = device::program(geo, g, k, page, bytes, marks, fuse);
-    device::fill(page, 0);
-    if !ok {
-        return Answer::Refused(Cause::Device);
-    }
-    page_map::remap(geo, l, g, k, tab);
-    Answer::Moved(xs.len())
+    let at = page_map::find_page(t, bad).ok_or(Cause::NoRoom)?;
+    build_page(t, f, l, off, xs, page);
+    page_map::spend(t, at);
+    let done = f.program(at, page);
+    page.fill(0);
+    done?;
+    page_map::remap(t, l, at);
+    Ok(xs.len())
 }

@@ -4,7 +4,7 @@
 ghost use Rattle.std.specs.Prelude.{◌≡◌};
 ghost use Rattle.segment.specs.Reset.{reset};
 
-#[derive(Drop)]
+#[derive(Clone, Copy, Debug, PartialEq, Eq)]
 pub struct Segment {
     pub free: u32,
     pub valid: u32,
@@ -14,8 +14,10 @@ pub struct Segment {
 pub fn segment_data_init(segment: &mut Segment, pages: u32)
     ensures { segment.new ≡ reset pages }
 {
-    segment.free = pages;
-    segment.valid = 0;
+    *segment = Segment {
+        free: pages,
+        valid: 0,
+    };
 }
 
 // For a caller whose counts lie apart, as words: they are made a record, which is lent and handed back.

@@ -8,7 +8,7 @@ ghost use Rattle.sizes.specs.Sizes.{size_of, sized};
 use model::Geometry;
 
 // What a caller lends, by size.
-#[derive(Drop)]
+#[derive(Clone, Copy, Debug, PartialEq, Eq)]
 pub enum Size {
     TabWords,
     UsedBytes,
@@ -27,18 +27,17 @@ fn size_of(geo: Geometry, what: Size) -> usize
     requires { Good geo }
     ensures { result ≡ size_of geo what }
 {
-    let pages = geo.n * geo.p;
     match what {
-        Size::TabWords => geo.e + geo.n * 5 + 2 + pages,
-        Size::UsedBytes => pages,
-        Size::FlashBytes => pages * geo.s,
-        Size::MarkBytes => pages,
+        Size::TabWords => geo.words(),
+        Size::UsedBytes => geo.pages(),
+        Size::FlashBytes => geo.pages() * geo.s,
+        Size::MarkBytes => geo.pages(),
         Size::CountWords => geo.n,
         Size::BadBytes => geo.n,
         Size::PageBytes => geo.s,
         Size::SeenBytes => geo.n + geo.p,
         Size::OrderWords => geo.n,
-        Size::TakenBytes => pages,
+        Size::TakenBytes => geo.pages(),
         Size::CheckpointBytes => checkpoint::file_size(geo),
     }
 }
@@ -47,8 +46,9 @@ fn size_of(geo: Geometry, what: Size) -> usize
 pub fn sized(geo: Geometry, what: Size) -> usize
     ensures { result ≡ sized geo what }
 {
-    if !sound::good(geo) {
-        return 0;
+    if sound::good(geo) {
+        size_of(geo, what)
+    } else {
+        0
     }
-    size_of(geo, what)
 }

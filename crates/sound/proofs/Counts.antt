@@ -1,41 +1,35 @@
--- Laws of the loops over a whole slice: `unlike` and `total` one element at a time from the front, and what is known of the elements passed.
-use Prim.Native.Nat.{ℕ, suc, ◌+◌, ◌-◌, ◌≤◌, ◌<◌}
-use native.Mathlib.Numerals.{add-one}
-use native.Mathlib.Omega.{arith}
-use mathlib.Core.Path.{◌≡◌, refl, sym, ap, ◌∙◌}
-use mathlib.Core.Bool.{true}
-use mathlib.Core.List.{List, [], ◌∷◌}
-use lib.ListN.{length, drop, drop_of_length-le}
-use lib.Seq.{drop-cons}
-use borrow.Author.Tests.{eq-eqb, ne_eqb}
-use Rattle.model.specs.Lists.{blank, total}
+-- What the functions over a whole slice answer, in the words of the definitions.
+use Rattle.std.proofs.Common.{ℕ, ◌+◌, ◌-◌, ◌≤◌, ◌<◌, ◌≡◌, Bool, true, false, not, ◌&&◌, eqb, List, [], ◌∷◌, length, refl, sym, ap, ◌∙◌, arith, sum}
+use Rattle.std.specs.List.{list_all, sum_by}
+use Rattle.std.proofs.lemmas.List.Recursion.{is_sum_by, and_at, and_from_places}
+use borrow.Author.Tests.{eq-eqb, eqb-true}
+use Rattle.model.specs.Lists.{blank, bit, total}
 use Rattle.model.specs.Tables.{at, region}
+use Rattle.model.proofs.Official.{Says}
 use Rattle.model.proofs.Regions.{region-at, region-length}
-use Rattle.model.proofs.Guard.{blank_is}
-use Rattle.model.proofs.Base.{same_replicate}
-use Rattle.sound.specs.Steps.{Every, unlike}
+use Rattle.sound.specs.Steps.{Every, unlike, miss}
 
-module _ (v : ℕ) (s : List ℕ) (i : ℕ) (h : i < length s) where
-  pub unlike_more : (at s i ≡ v → ⊥) → unlike v (drop i s) ≡ suc (unlike v (drop (i + 1) s))
-  unfolding unlike
-  unlike_more ne = rw (add-one, drop-cons s i 0, ne_eqb (at s i) v ne) refl
+-- `every`, as a fact of each place
+pub every_says : (v : ℕ) (xs : List ℕ) (r : Bool) → r ≡ list_all (λ x. eqb x v) xs → Says r (Every v xs)
+every_says v xs true e = λ k h. eqb-true _ v (and_at (list_all (λ x. eqb x v)) (λ x. eqb x v) refl (λ _ _. refl) xs k 0 h (sym e))
+every_says v xs false e = λ all. cc (and_from_places (list_all (λ x. eqb x v)) (λ x. eqb x v) refl (λ _ _. refl) xs 0 (λ k h. eq-eqb _ v (all k h)))
 
-  pub unlike_same : at s i ≡ v → unlike v (drop i s) ≡ unlike v (drop (i + 1) s)
-  unfolding unlike
-  unlike_same e = rw (add-one, drop-cons s i 0, eq-eqb (at s i) v e) refl
+pub all_blank : (xs : List ℕ) → list_all (λ x. eqb x 0) xs ≡ blank xs
+unfolding blank
+all_blank [] = refl
+all_blank (x ∷ xs) = ap (λ b. eqb x 0 && b) (all_blank xs)
 
-pub total_more : (s : List ℕ) (i : ℕ) → i < length s → total (drop i s) ≡ at s i + total (drop (i + 1) s)
-unfolding total
-total_more s i h = rw (add-one, drop-cons s i 0) refl
-
--- nothing is left at the end
-pub unlike_end : (v : ℕ) (s : List ℕ) (i : ℕ) → length s ≤ i → unlike v (drop i s) ≡ 0
+pub unlike_sum : (v : ℕ) (xs : List ℕ) → unlike v xs ≡ sum_by (λ x. bit (not (eqb x v))) xs
 unfolding unlike
-unlike_end v s i h = rw (drop_of_length-le s h) refl
+unlike_sum v = is_sum_by (unlike v) _ refl (λ x xs. one (eqb x v) (unlike v xs))
+  where
+    one : (b : Bool) (k : ℕ) → miss b k ≡ bit (not b) + k
+    one true k = omega arith
+    one false k = omega arith
 
-pub total_end : (s : List ℕ) (i : ℕ) → length s ≤ i → total (drop i s) ≡ 0
+pub total_sum : (xs : List ℕ) → total xs ≡ sum xs
 unfolding total
-total_end s i h = rw (drop_of_length-le s h) refl
+total_sum = is_sum_by total (λ x. x) refl (λ _ _. refl)
 
 -- every element of a part is v, said of the whole list
 module _ (v : ℕ) (xs : List ℕ) (a n : ℕ) (fits : a + n ≤ length xs) where
@@ -48,16 +42,3 @@ module _ (v : ℕ) (xs : List ℕ) (a n : ℕ) (fits : a + n ≤ length xs) wher
   each_part h k l =
       let b : k < n = omega (arith, region-length a n xs fits) in
       region-at a n xs k 0 b ∙ h (a + k) (omega arith) (omega arith)
-
--- every element before i is v
-abbrev pub Upto : ℕ → List ℕ → ℕ → Type 0
-Upto v s i = (k : ℕ) → k < i → at s k ≡ v
-
--- the test of a scratch: it passes exactly where every element is 0
-pub blank-every : (s : List ℕ) → blank s ≡ true → Every 0 s
-blank-every s e k l = ap (λ z. at z k) (blank_is s e) ∙ same_replicate (length s) 0 k
-
-pub every-blank : (s : List ℕ) → Every 0 s → blank s ≡ true
-unfolding blank
-every-blank [] h = refl
-every-blank (x ∷ xs) h = rw (eq-eqb x 0 (h 0 (omega arith))) (every-blank xs (λ k l. h (suc k) (omega arith)))

@@ -6,5 +6,4 @@ pub mod Bijection
 pub mod Placed
 pub mod Flat
 pub mod Scratch
-pub mod Lent
 pub mod Whole

@@ -1,9 +1,6 @@
 -- A test's answer, carried from one proposition to another.
-use Prim.Native.Nat.{ℕ}
-use mathlib.Core.Path.{◌≡◌, refl, sym, ◌∙◌}
+use mathlib.Core.Path.{◌≡◌}
 use mathlib.Core.Bool.{Bool, true, false}
-use lib.Dec.{eqb}
-use borrow.Author.Tests.{eqb-true, eqb-false}
 use Rattle.model.proofs.Official.{Says}
 
 -- an answer that says P says Q, if P gives Q and Q gives P
@@ -11,17 +8,16 @@ pub says_iff : {P Q : Type 0} (r : Bool) → (P → Q) → (Q → P) → Says r 
 says_iff true f g h = f h
 says_iff false f g h = λ q. h (g q)
 
--- what says P is the test that passes exactly where P holds
-pub says_test : {P : Type 0} (r b : Bool) → (b ≡ true → P) → (P → b ≡ true) → Says r P → r ≡ b
-says_test true true f g h = refl
-says_test true false f g h = sym (g h)
-says_test false true f g h = absurd (h (f refl))
-says_test false false f g h = refl
+-- a test that failed, where Q would have it pass
+pub says_not : {Q : Type 0} (r : Bool) → r ≡ false → (Q → ⊥) → Says r Q
+says_not true e f = cc
+says_not false e f = f
 
--- two counts are compared
-pub says_equal : (a b : ℕ) {x y : ℕ} → a ≡ x → b ≡ y → Says (eqb a b) (x ≡ y)
-says_equal a b {x} {y} e f = go (eqb a b) refl
-  where
-    go : (r : Bool) → eqb a b ≡ r → Says r (x ≡ y)
-    go true q = sym e ∙ eqb-true a b q ∙ f
-    go false q = λ z. eqb-false a b q (e ∙ z ∙ sym f)
+-- what a test says that passed, and one that failed
+pub says_passed : {P : Type 0} (r : Bool) → r ≡ true → Says r P → P
+says_passed true e s = s
+says_passed false e s = cc
+
+pub says_failed : {P : Type 0} (r : Bool) → r ≡ false → Says r P → P → ⊥
+says_failed true e s p = cc
+says_failed false e s p = s p

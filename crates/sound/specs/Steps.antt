@@ -1,9 +1,9 @@
 -- What the steps of the soundness test say: of plain lists and numbers, and then of the tables.
 use Rattle.std.specs.Prelude.{ℕ, suc, ◌+◌, ◌-◌, ◌*◌, ◌^◌, ◌≤◌, ◌<◌, ◌≡◌, Bool, true, false, List, [], ◌∷◌, length, take, eqb}
-use Rattle.model.specs.Lists.{slot, zeros, total}
+use Rattle.model.specs.Lists.{slot, total}
 use Rattle.model.specs.declared.Geometry.{Geometry}
-use Rattle.model.specs.Numbers.{Good, empty}
-use Rattle.model.specs.Tables.{Tables, at, queue_of, tab_words, pages}
+use Rattle.model.specs.Numbers.{empty}
+use Rattle.model.specs.Tables.{Tables, at, queue_of}
 
 -- every element is v
 abbrev pub Every : ℕ → List ℕ → Type 0
@@ -71,13 +71,3 @@ pub record Heads (G : Geometry) (t : Tables) : Type 0 where
 -- the lists have as many entries as there are mapped pages
 abbrev pub Balanced : Tables → Type 0
 Balanced t = total t.lens ≡ unlike empty t.map
-
--- words of the right size; and beside them the use marks, and clean marks for the pages of a segment
-pub record Words (G : Geometry) (w : List ℕ) : Type 0 where
-  pub good : Good G
-  pub size : length w ≡ tab_words G
-
-pub record Scanned (G : Geometry) (w u seen : List ℕ) : Type 0 where
-  pub words : Words G w
-  pub used_size : length u ≡ pages G
-  pub clean : seen ≡ zeros G.p

@@ -1,42 +1,24 @@
 // The tests that the public entries begin with: of the geometry, of the tables, of the scratch.
 #![tactic(auto)]
 
-ghost use Rattle.std.specs.Prelude.{◌≡◌, List, ◌++◌, ℕ, ◌+◌, ◌≤◌, ◌<◌, ◌^◌, length, drop};
+ghost use Rattle.std.specs.Prelude.{◌≡◌, ℕ, ◌+◌, ◌*◌, ◌≤◌, ◌<◌, ◌^◌, length, take, drop};
+ghost use Rattle.std.specs.List.{list_all};
 ghost use Rattle.model.specs.Lists.{blank, zeros, total};
 ghost use Rattle.model.specs.Numbers.{Good, good?};
-ghost use Rattle.model.specs.Tables.{tab_words, pages, view};
+ghost use Rattle.model.specs.Tables.{tab_words, pages, view, region};
 ghost use Rattle.model.specs.Sound.{soundb};
 ghost use Rattle.model.proofs.Official.{Says};
-ghost use Rattle.sound.specs.Steps.{Every, unlike, Marks, Entries, Slots, Queue, Numbers, Segment, Heads, Balanced, Words, Scanned};
+ghost use Rattle.sound.specs.Steps.{unlike, Marks, Entries, Slots, Queue, Numbers, Segment, Heads, Balanced};
 
-use model::Geometry;
+use model::{Geometry, PhysicalAddress};
 
-// Whether every byte of s is v. The loop has one way out, so that it is vectorised.
-fn every8(s: &[u8], v: u8) -> bool
-    ensures { Says result (Every v s.now) }
+// Whether every element of s is v. The loop has one way out, so that it is vectorised: `all` was tried, and misses a bar of speed.
+fn every<T: PartialEq + Copy>(s: &[T], v: T) -> bool
+    ensures { result ≡ list_all (λ x. T.eq x v) s.now }
 {
     let mut same = true;
-    let mut i = 0;
-    while i < s.len() {
-        if s[i] != v {
-            same = false;
-        }
-        i += 1;
-    }
-    same
-}
-
-// Whether every word of s is v.
-fn every32(s: &[u32], v: u32) -> bool
-    ensures { Says result (Every v s.now) }
-{
-    let mut same = true;
-    let mut i = 0;
-    while i < s.len() {
-        if s[i] != v {
-            same = false;
-        }
-        i += 1;
+    for x in s {
+        same &= *x == v;
     }
     same
 }
@@ -45,109 +27,44 @@ fn every32(s: &[u32], v: u32) -> bool
 pub fn blank(s: &[u8]) -> bool
     ensures { result ≡ blank s.now }
 {
-    every8(s, 0)
+    every(s, 0)
 }
 
 // Whether a scratch of words is all zero.
 pub fn blank_words(s: &[u32]) -> bool
     ensures { result ≡ blank s.now }
 {
-    every32(s, 0)
+    every(s, 0)
 }
 
-// How many words of s are not v. A count as wide as the words, so that the loop is vectorised well.
-fn unlike32(s: &[u32], v: u32) -> u32
+// How many words of s are not v. A count as wide as the words, so that it is vectorised well.
+fn unlike(s: &[u32], v: u32) -> u32
     requires { length s.now < 2 ^ 32 }
     ensures { result ≡ unlike v s.now }
 {
-    let mut bad: u32 = 0;
-    let mut i = 0;
-    while i < s.len() {
-        if s[i] != v {
-            bad += 1;
-        }
-        i += 1;
-    }
-    bad
+    s.iter().map(|x| u32::from(*x != v)).sum()
 }
 
 // The sum of the words of s, of which there are few enough that it fits.
+#[tactic(auto, using(crate::proofs::Counts::total_sum))]
 pub fn total32(s: &[u32]) -> u64
     requires { length s.now ≤ 65535 }
     ensures { result ≡ total s.now }
 {
-    let mut sum: u64 = 0;
-    let mut i = 0;
-    while i < s.len() {
-        sum += s[i] as u64;
-        i += 1;
-    }
-    sum
-}
-
-// Sets the first k marks to 0.
-fn clear(s: &mut [u8], k: usize)
-    requires { k ≤ length s.old }
-    ensures { s.new ≡ zeros k ++ drop k s.old }
-{
-    let mut i = 0;
-    while i < k {
-        s[i] = 0;
-        i += 1;
-    }
-}
-
-// 2 to the power w: how many addresses a segment has.
-fn span(w: usize) -> usize
-    requires { w ≤ 16 }
-    ensures { result ≡ 2 ^ w }
-{
-    1usize << w
+    s.iter().map(|x| u64::from(*x)).sum()
 }
 
 // Whether the geometry is one that document 01 allows. Small numbers first: then no product or power of them wraps.
 pub fn good(geo: Geometry) -> bool
     ensures { result ≡ good? geo }
 {
-    let n = geo.n;
-    let p = geo.p;
-    let s = geo.s;
-    let w = geo.w;
-    let e = geo.e;
-    if n < 1 {
-        return false;
-    }
-    if 65535 < n {
-        return false;
-    }
-    if p < 1 {
-        return false;
-    }
-    if 1024 < p {
-        return false;
-    }
-    if s < 1 {
-        return false;
-    }
-    if 16384 < s {
-        return false;
-    }
-    if 16 < w {
-        return false;
-    }
-    if span(w) < p {
-        return false;
-    }
-    if e < 1 {
-        return false;
-    }
-    if n * p < e {
-        return false;
-    }
-    if 4294967295 < geo.limit {
-        return false;
-    }
-    true
+    (1..=65535).contains(&geo.n)
+        && (1..=1024).contains(&geo.p)
+        && (1..=16384).contains(&geo.s)
+        && geo.w <= 16
+        && geo.p <= geo.span()
+        && (1..=geo.n * geo.p).contains(&geo.e)
+        && geo.limit <= u32::MAX as usize
 }
 
 // Whether a segment's first u use marks are 1 and the others 0.
@@ -155,134 +72,85 @@ fn marks(used: &[u8], u: usize) -> bool
     requires { u ≤ length used.now }
     ensures { Says result (Marks used.now u) }
 {
-    if !every8(&used[..u], 1) {
-        return false;
-    }
-    every8(&used[u..], 0)
+    every(&used[..u], 1) && every(&used[u..], 0)
 }
 
-// Whether the entries of a segment's list are logical pages, their addresses among the u from `first` up, and no two the same.
-// The marks of the pages that were met, which are among the first u, are left set.
-fn mark_pages(list: &[u32], map: &[u32], seen: &mut [u8], first: usize, u: usize) -> bool
-    requires { (seen.old ≡ zeros (length seen.old)) × (u ≤ length seen.old) }
-    ensures says { Says result (Entries list.now map.now first u) }
-    ensures seen_unchanged { drop u seen.new ≡ drop u seen.old }
-{
-    let mut i = 0;
-    while i < list.len() {
-        let l = list[i] as usize;
-        if map.len() <= l {
-            return false;
+// A segment's counts and its flag.
+#[derive(Clone, Copy)]
+struct Record {
+    free: usize,
+    valid: usize,
+    len: usize,
+    flag: usize,
+}
+
+impl Record {
+    // Whether they are right for a segment of p pages.
+    fn right(self, p: usize) -> bool
+        ensures { Says result (Numbers p self.free self.valid self.len self.flag) }
+    {
+        self.free <= p
+            && self.valid <= p - self.free
+            && self.len <= self.valid
+            && (self.flag == 0 || self.flag == 1 && self.free == 0)
+    }
+}
+
+// The used pages of a segment: so many addresses from `first` up, which the map names.
+#[derive(Clone, Copy)]
+struct Home<'a> {
+    map: &'a [u32],
+    first: usize,
+    used: usize,
+}
+
+impl<'a> Home<'a> {
+    // Whether the entries of a list are logical pages with addresses of this home, and no two the same.
+    // The marks of the pages that were met, which are among the first `used`, are left set.
+    fn mark(&self, list: &[u32], seen: &mut [u8]) -> bool
+        requires { (seen.old ≡ zeros (length seen.old)) × (self.now.used ≤ length seen.old) }
+        ensures says { Says result (Entries list.now self.now.map.now self.now.first self.now.used) }
+        ensures seen_unchanged { drop self.now.used seen.new ≡ drop self.now.used seen.old }
+    {
+        // `get` and `checked_sub`: tried, and miss a bar of speed.
+        for l in list {
+            let l = *l as usize;
+            if self.map.len() <= l {
+                return false;
+            }
+            let a = self.map[l] as usize;
+            if a < self.first {
+                return false;
+            }
+            let k = a - self.first;
+            if self.used <= k || seen[k] != 0 {
+                return false;
+            }
+            seen[k] = 1;
         }
-        let a = map[l] as usize;
-        if a < first {
-            return false;
-        }
-        let k = a - first;
-        if u <= k {
-            return false;
-        }
-        if seen[k] != 0 {
-            return false;
-        }
-        seen[k] = 1;
-        i += 1;
+        true
     }
-    true
-}
 
-// The same, with the marks handed back all 0.
-fn listed(list: &[u32], map: &[u32], seen: &mut [u8], first: usize, u: usize) -> bool
-    requires { (seen.old ≡ zeros (length seen.old)) × (u ≤ length seen.old) }
-    ensures says { Says result (Entries list.now map.now first u) }
-    ensures seen_unchanged { seen.new ≡ seen.old }
-{
-    let ok = mark_pages(list, map, seen, first, u);
-    clear(seen, u);
-    ok
-}
+    // The same, with the marks handed back all 0.
+    fn listed(&self, list: &[u32], seen: &mut [u8]) -> bool
+        requires { (seen.old ≡ zeros (length seen.old)) × (self.now.used ≤ length seen.old) }
+        ensures says { Says result (Entries list.now self.now.map.now self.now.first self.now.used) }
+        ensures seen_unchanged { seen.new ≡ seen.old }
+    {
+        let ok = self.mark(list, seen);
+        seen[..self.used].fill(0);
+        ok
+    }
 
-// Whether a segment's list slots are right: the first `len` as `listed` says, the others 0.
-fn slots(list: &[u32], len: usize, map: &[u32], seen: &mut [u8], first: usize, u: usize) -> bool
-    requires len_in_bounds { len ≤ length list.now }
-    requires seen_value { (seen.old ≡ zeros (length seen.old)) × (u ≤ length seen.old) }
-    ensures says { Says result (Slots list.now len map.now first u) }
-    ensures seen_unchanged { seen.new ≡ seen.old }
-{
-    if !every32(&list[len..], 0) {
-        return false;
+    // Whether the segment's list slots are right: the first `len` as `listed` says, the others 0.
+    fn slots(&self, list: &[u32], len: usize, seen: &mut [u8]) -> bool
+        requires len_in_bounds { len ≤ length list.now }
+        requires seen_value { (seen.old ≡ zeros (length seen.old)) × (self.now.used ≤ length seen.old) }
+        ensures says { Says result (Slots list.now len self.now.map.now self.now.first self.now.used) }
+        ensures seen_unchanged { seen.new ≡ seen.old }
+    {
+        every(&list[len..], 0) && self.listed(&list[..len], seen)
     }
-    listed(&list[..len], map, seen, first, u)
-}
-
-// Whether a segment's counts and its flag are right.
-fn numbers(p: usize, free: usize, valid: usize, len: usize, flag: usize) -> bool
-    ensures { Says result (Numbers p free valid len flag) }
-{
-    if p < free {
-        return false;
-    }
-    let u = p - free;
-    if u < valid {
-        return false;
-    }
-    if valid < len {
-        return false;
-    }
-    if 1 < flag {
-        return false;
-    }
-    if flag == 0 {
-        return true;
-    }
-    if free != 0 {
-        return false;
-    }
-    true
-}
-
-// Whether segment g's record is right. The marks are for its pages.
-fn segment(geo: Geometry, g: usize, tab: &[u32], used: &[u8], seen: &mut [u8]) -> bool
-    requires { Scanned geo tab.now used.now seen.old × (g < geo.n) }
-    ensures says { Says result (Segment geo (view geo tab.now used.now) g) }
-    ensures seen_unchanged { seen.new ≡ seen.old }
-{
-    let e = geo.e;
-    let n = geo.n;
-    let p = geo.p;
-    let free = tab[e + g] as usize;
-    let valid = tab[e + n + g] as usize;
-    let len = tab[e + n * 2 + g] as usize;
-    let flag = tab[e + n * 4 + g] as usize;
-    if !numbers(p, free, valid, len, flag) {
-        return false;
-    }
-    let u = p - free;
-    let a = g * p;
-    let b = a + p;
-    if !marks(&used[a..b], u) {
-        return false;
-    }
-    let c = e + n * 5 + 2 + a;
-    let d = c + p;
-    let first = g * span(geo.w);
-    slots(&tab[c..d], len, &tab[..e], seen, first, u)
-}
-
-// Whether every segment's record is right.
-fn segments(geo: Geometry, tab: &[u32], used: &[u8], seen: &mut [u8]) -> bool
-    requires { Scanned geo tab.now used.now seen.old }
-    ensures says { Says result ((g : ℕ) → g < geo.n → Segment geo (view geo tab.now used.now) g) }
-    ensures seen_unchanged { seen.new ≡ seen.old }
-{
-    let mut g = 0;
-    while g < geo.n {
-        if !segment(geo, g, tab, used, seen) {
-            return false;
-        }
-        g += 1;
-    }
-    true
 }
 
 // Whether the queued segments are segments with free count 0 and their flag set, and no two the same. The marks of those met are left set.
@@ -292,23 +160,12 @@ fn mark_queue(queue: &[u32], free: &[u32], flags: &[u32], seen: &mut [u8]) -> bo
     ensures says { Says result (Queue queue.now free.now flags.now) }
     ensures seen_unchanged { drop (length free.now) seen.new ≡ drop (length free.now) seen.old }
 {
-    let mut i = 0;
-    while i < queue.len() {
-        let q = queue[i] as usize;
-        if free.len() <= q {
-            return false;
-        }
-        if free[q] != 0 {
-            return false;
-        }
-        if flags[q] != 1 {
-            return false;
-        }
-        if seen[q] != 0 {
+    for q in queue {
+        let q = *q as usize;
+        if free.len() <= q || free[q] != 0 || flags[q] != 1 || seen[q] != 0 {
             return false;
         }
         seen[q] = 1;
-        i += 1;
     }
     true
 }
@@ -321,49 +178,170 @@ fn queued(queue: &[u32], free: &[u32], flags: &[u32], seen: &mut [u8]) -> bool
     ensures seen_unchanged { seen.new ≡ seen.old }
 {
     let ok = mark_queue(queue, free, flags, seen);
-    clear(seen, free.len());
+    seen[..free.len()].fill(0);
     ok
 }
 
-// Whether the allocation segment and the queue are right. The marks are for the segments.
-fn heads(geo: Geometry, tab: &[u32], seen: &mut [u8]) -> bool
-    requires { Words geo tab.now × (seen.old ≡ zeros geo.n) }
-    ensures by_index { (u : List ℕ) → Says result (Heads geo (view geo tab.now u)) }
-    ensures seen_unchanged { seen.new ≡ seen.old }
+// Part g of what is cut into parts of p.
+fn part<T>(s: &[T], p: usize, g: usize) -> &[T]
+    requires { g * p + p ≤ length s.now }
+    ensures { result.now ≡ take p (drop (g * p) s.now) }
 {
-    let e = geo.e;
-    let n = geo.n;
-    let o = e + n * 5;
-    let alloc = tab[o] as usize;
-    let count = tab[o + 1] as usize;
-    if n <= alloc {
-        return false;
-    }
-    if n < count {
-        return false;
-    }
-    let a = e + n * 3;
-    let m = a + count;
-    let b = a + n;
-    if !every32(&tab[m..b], 0) {
-        return false;
-    }
-    let f = e + n;
-    queued(&tab[a..m], &tab[e..f], &tab[b..o], seen)
+    &s[g * p..g * p + p]
 }
 
-// Whether the lists have as many entries as the map has mapped pages.
-fn balanced(geo: Geometry, tab: &[u32]) -> bool
-    requires { Words geo tab.now }
-    ensures { (u : List ℕ) → Says result (Balanced (view geo tab.now u)) }
-{
-    let e = geo.e;
-    let n = geo.n;
-    let a = e + n * 2;
-    let b = a + n;
-    let entries = total32(&tab[a..b]);
-    let mapped = unlike32(&tab[..e], 0xffff_ffff);
-    entries == mapped as u64
+// Words and use marks with tables in them, lent to look at. Where each part lies stands here alone.
+#[derive(Clone, Copy)]
+struct Packed<'a> {
+    geo: Geometry,
+    tab: &'a [u32],
+    used: &'a [u8],
+    ghost good: { Good geo },
+    ghost tab_len: { length tab.now ≡ tab_words geo },
+    ghost used_len: { length used.now ≡ pages geo },
+}
+
+#[tactic(auto, unfolding(model::specs::Tables::view))]
+impl<'a> Packed<'a> {
+    ghost use Rattle.sound.specs.Parts.{tables_in};
+
+    fn map(&self) -> &'a [u32]
+        ensures part { result.now ≡ (tables_in self.now).map }
+        ensures len { length result.now ≡ self.now.geo.e }
+    {
+        &self.tab[..self.geo.e]
+    }
+
+    // The five tables of a word for each segment lie behind the map: free counts, valid counts, lengths, queue, flags.
+    fn column(&self, i: usize) -> &'a [u32]
+        requires { i < 5 }
+        ensures part { result.now ≡ region (self.now.geo.e + self.now.geo.n * i) self.now.geo.n self.now.tab.now }
+        ensures len { length result.now ≡ self.now.geo.n }
+    {
+        let start = self.geo.e + self.geo.n * i;
+        &self.tab[start..start + self.geo.n]
+    }
+
+    fn free(&self) -> &'a [u32]
+        ensures part { result.now ≡ (tables_in self.now).free }
+        ensures len { length result.now ≡ self.now.geo.n }
+    {
+        self.column(0)
+    }
+
+    fn valid(&self) -> &'a [u32]
+        ensures part { result.now ≡ (tables_in self.now).valid }
+        ensures len { length result.now ≡ self.now.geo.n }
+    {
+        self.column(1)
+    }
+
+    fn lens(&self) -> &'a [u32]
+        ensures part { result.now ≡ (tables_in self.now).lens }
+        ensures len { length result.now ≡ self.now.geo.n }
+    {
+        self.column(2)
+    }
+
+    fn queue(&self) -> &'a [u32]
+        ensures part { result.now ≡ (tables_in self.now).queue }
+        ensures len { length result.now ≡ self.now.geo.n }
+    {
+        self.column(3)
+    }
+
+    fn flags(&self) -> &'a [u32]
+        ensures part { result.now ≡ (tables_in self.now).flags }
+        ensures len { length result.now ≡ self.now.geo.n }
+    {
+        self.column(4)
+    }
+
+    // Behind those the allocation segment and the queue's length, and then the lists.
+    fn alloc(&self) -> usize
+        ensures { result ≡ (tables_in self.now).alloc }
+    {
+        self.tab[self.geo.e + self.geo.n * 5] as usize
+    }
+
+    fn queued(&self) -> usize
+        ensures { result ≡ (tables_in self.now).queued }
+    {
+        self.tab[self.geo.e + self.geo.n * 5 + 1] as usize
+    }
+
+    fn lists(&self) -> &'a [u32]
+        ensures part { result.now ≡ (tables_in self.now).lists }
+        ensures len { length result.now ≡ self.now.geo.n * self.now.geo.p }
+    {
+        &self.tab[self.geo.e + self.geo.n * 5 + 2..]
+    }
+}
+
+impl<'a> Packed<'a> {
+    ghost use Rattle.sound.specs.Parts.{tables_in};
+
+    // Whether segment g's record is right. The marks are for its pages.
+    #[tactic(auto, using(model::proofs::Slots::part_fits))]
+    fn segment(&self, g: usize, seen: &mut [u8]) -> bool
+        requires { (g < self.now.geo.n) × (seen.old ≡ zeros self.now.geo.p) }
+        ensures says { Says result (Segment self.now.geo (tables_in self.now) g) }
+        ensures seen_unchanged { seen.new ≡ seen.old }
+    {
+        let p = self.geo.p;
+        let record = Record {
+            free: self.free()[g] as usize,
+            valid: self.valid()[g] as usize,
+            len: self.lens()[g] as usize,
+            flag: self.flags()[g] as usize,
+        };
+        if !record.right(p) {
+            return false;
+        }
+        let home = Home {
+            map: self.map(),
+            first: g * self.geo.span(),
+            used: p - record.free,
+        };
+        marks(part(self.used, p, g), home.used)
+            && home.slots(part(self.lists(), p, g), record.len, seen)
+    }
+
+    // Whether every segment's record is right.
+    fn segments(&self, seen: &mut [u8]) -> bool
+        requires { seen.old ≡ zeros self.now.geo.p }
+        ensures says { Says result ((g : ℕ) → g < self.now.geo.n → Segment self.now.geo (tables_in self.now) g) }
+        ensures seen_unchanged { seen.new ≡ seen.old }
+    {
+        for g in 0..self.geo.n {
+            if !self.segment(g, seen) {
+                return false;
+            }
+        }
+        true
+    }
+
+    // Whether the allocation segment and the queue are right. The marks are for the segments.
+    fn heads(&self, seen: &mut [u8]) -> bool
+        requires { seen.old ≡ zeros self.now.geo.n }
+        ensures says { Says result (Heads self.now.geo (tables_in self.now)) }
+        ensures seen_unchanged { seen.new ≡ seen.old }
+    {
+        let n = self.geo.n;
+        let count = self.queued();
+        let queue = self.queue();
+        if n <= self.alloc() || n < count {
+            return false;
+        }
+        every(&queue[count..], 0) && queued(&queue[..count], self.free(), self.flags(), seen)
+    }
+
+    // Whether the lists have as many entries as the map has mapped pages.
+    fn balanced(&self) -> bool
+        ensures { Says result (Balanced (tables_in self.now)) }
+    {
+        total32(self.lens()) == u64::from(unlike(self.map(), PhysicalAddress::EMPTY.0))
+    }
 }
 
 // The soundness test. It is linear: a look at each word and each use mark, and one at the map for each list entry.
@@ -374,12 +352,7 @@ pub fn sound(geo: Geometry, tab: &[u32], used: &[u8], seen: &mut [u8]) -> bool
     ensures value { result ≡ soundb geo (view geo tab.now used.now) }
     ensures seen_after { seen.new ≡ zeros (geo.n + geo.p) }
 {
-    let n = geo.n;
-    if !heads(geo, tab, &mut seen[..n]) {
-        return false;
-    }
-    if !segments(geo, tab, used, &mut seen[n..]) {
-        return false;
-    }
-    balanced(geo, tab)
+    let tables = Packed { geo, tab, used };
+    let (segments, pages) = seen.split_at_mut(geo.n);
+    tables.heads(segments) && tables.segments(pages) && tables.balanced()
 }

@@ -1,13 +1,29 @@
-ghost use Rattle.std.specs.Prelude.{◌≡◌, ◌*◌, ◌+◌, length};
+ghost use Rattle.std.specs.Prelude.{◌≡◌, ◌*◌, length};
 ghost use Rattle.model.specs.Numbers.{Good};
-ghost use Rattle.model.specs.Tables.{tables, tab_words, pages, view};
+ghost use Rattle.model.specs.Tables.{Tables, tables, tab_words, pages, view};
+ghost use Rattle.model.specs.declared.Geometry.{Geometry};
+ghost use Rattle.model.specs.Numbers.{Answer};
 ghost use Rattle.tables.specs.Parts.{tables_of, Same};
 
 use crate::TablesMut;
-use model::Geometry;
+use model::{Answer, Geometry};
 
-// The call `f` on the tables whose parts are these, and on x.
-fn of_parts<R, X, F: FnOnce(&mut TablesMut<'_>, &mut X) -> R>(
+// A call on the tables, with what else it is lent.
+pub trait Deed {
+    // What it asks of the tables and of what it is lent.
+    ghost may: { Geometry → Tables → Self → Type 0 };
+
+    // What it answers, and what it leaves of both.
+    ghost does: { Geometry → Tables → Self → Answer → Tables → Self → Type 0 };
+
+    fn run(&mut self, t: &mut TablesMut<'_>) -> Answer
+        requires { may t.old.geo (tables_of t.old) self.old }
+        ensures same { Same t.old t.new }
+        ensures does { does t.old.geo (tables_of t.old) self.old result (tables_of t.new) self.new };
+}
+
+// The deed on the tables whose parts are these.
+fn on_parts<D: Deed>(
     geo: Geometry,
     map: &mut [u32],
     free: &mut [u32],
@@ -19,19 +35,13 @@ fn of_parts<R, X, F: FnOnce(&mut TablesMut<'_>, &mut X) -> R>(
     queued: &mut u32,
     lists: &mut [u32],
     used: &mut [u8],
-    x: &mut X,
-    f: F,
-) -> R
+    deed: &mut D,
+) -> Answer
     requires good { Good geo }
     requires sized { (length map.old ≡ geo.e) × (length free.old ≡ geo.n) × (length valid.old ≡ geo.n) × (length lens.old ≡ geo.n) × (length queue.old ≡ geo.n) × (length flags.old ≡ geo.n) × (length lists.old ≡ geo.n * geo.p) × (length used.old ≡ geo.n * geo.p) }
-    requires callable { (t : _) (y : _) → t.now.geo ≡ geo
-        → tables_of t.now ≡ tables map.old free.old valid.old used.old lists.old lens.old queue.old flags.old alloc.old queued.old
-        → y.now ≡ x.old → F.pre f t y }
-    requires same { (t : _) (y : _) (r : R) (t' : _) (y' : _) → F.post f t y r t' y' → Same t.now t'.now }
-    ensures { (t : _) × (y : _) × (t' : _) × (y' : _) × (t.now.geo ≡ geo)
-        × (tables_of t.now ≡ tables map.old free.old valid.old used.old lists.old lens.old queue.old flags.old alloc.old queued.old)
-        × (y.now ≡ x.old) × F.post f t y result t' y' × (y'.now ≡ x.new)
-        × (tables map.new free.new valid.new used.new lists.new lens.new queue.new flags.new alloc.new queued.new ≡ tables_of t'.now) }
+    requires may { D.may geo (tables map.old free.old valid.old used.old lists.old lens.old queue.old flags.old alloc.old queued.old) deed.old }
+    ensures { D.does geo (tables map.old free.old valid.old used.old lists.old lens.old queue.old flags.old alloc.old queued.old) deed.old
+        result (tables map.new free.new valid.new used.new lists.new lens.new queue.new flags.new alloc.new queued.new) deed.new }
 {
     let mut t = TablesMut {
         geo,
@@ -46,23 +56,20 @@ fn of_parts<R, X, F: FnOnce(&mut TablesMut<'_>, &mut X) -> R>(
         lists,
         used,
     };
-    f(&mut t, x)
+    deed.run(&mut t)
 }
 
-// The call `f` on the tables that lie in the words and the use marks, and on x: what it leaves of them lies there again.
-pub fn in_parts<R, X, F: FnOnce(&mut TablesMut<'_>, &mut X) -> R>(
+// The deed on the tables that lie in the words and the use marks: what it leaves of them lies there again.
+pub fn on_packed<D: Deed>(
     geo: Geometry,
     tab: &mut [u32],
     used: &mut [u8],
-    x: &mut X,
-    f: F,
-) -> R
+    deed: &mut D,
+) -> Answer
     requires good { Good geo }
     requires tab_len { (length tab.old ≡ tab_words geo) × (length used.old ≡ pages geo) }
-    requires callable { (t : _) (y : _) → t.now.geo ≡ geo → tables_of t.now ≡ view geo tab.old used.old → y.now ≡ x.old → F.pre f t y }
-    requires same { (t : _) (y : _) (r : R) (t' : _) (y' : _) → F.post f t y r t' y' → Same t.now t'.now }
-    ensures { (t : _) × (y : _) × (t' : _) × (y' : _) × (t.now.geo ≡ geo) × (tables_of t.now ≡ view geo tab.old used.old)
-        × (y.now ≡ x.old) × F.post f t y result t' y' × (y'.now ≡ x.new) × (view geo tab.new used.new ≡ tables_of t'.now) }
+    requires may { D.may geo (view geo tab.old used.old) deed.old }
+    ensures { D.does geo (view geo tab.old used.old) deed.old result (view geo tab.new used.new) deed.new }
 {
     let (map, rest) = tab.split_at_mut(geo.e);
     let (free, rest) = rest.split_at_mut(geo.n);
@@ -72,7 +79,7 @@ pub fn in_parts<R, X, F: FnOnce(&mut TablesMut<'_>, &mut X) -> R>(
     let (flags, rest) = rest.split_at_mut(geo.n);
     let (alloc, rest) = rest.split_at_mut(1);
     let (queued, lists) = rest.split_at_mut(1);
-    of_parts(
+    on_parts(
         geo,
         map,
         free,
@@ -84,7 +91,6 @@ pub fn in_parts<R, X, F: FnOnce(&mut TablesMut<'_>, &mut X) -> R>(
         &mut queued[0],
         lists,
         used,
-        x,
-        f,
+        deed,
     )
 }

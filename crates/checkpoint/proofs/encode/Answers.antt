@@ -1,8 +1,9 @@
 -- `encode` meets its contract: the body is laid in, the head before it, the sum between them.
-use Rattle.std.proofs.Common.{◌≡◌, ◌≤◌, ◌+◌, ◌*◌, ◌-◌, length, ap, ◌∙◌, arith}
+use Rattle.std.proofs.Common.{◌≡◌, ◌≤◌, ◌+◌, ◌*◌, length, take, ap, ◌∙◌, arith}
+use lib.Seq.{length-take-le}
 use Rattle.model.specs.Lists.{splice}
-use Rattle.model.specs.Tables.{at, region, o_alloc}
-use Rattle.checkpoint.proofs.Encoded.{encoded, body_is, body_long}
+use Rattle.model.specs.Tables.{at, o_alloc}
+use Rattle.checkpoint.proofs.Encoded.{encoded, body_is}
 use Rattle.checkpoint.proofs.encode.Goals as goal
 
 pub returns : goal.returns
@@ -10,8 +11,8 @@ returns c u =
     let G = c.args.geo in
     let w = c.args.tab.now in
     let d = c.args.buffer.now in
-    let body = region 0 (G.e + G.n - 0) w in
-    let long : length body ≡ G.e + G.n = body_long G w c.requires.tab_len.0 in
+    let body = take (G.e + G.n) w in
+    let long : length body ≡ G.e + G.n = length-take-le (G.e + G.n) w (omega (arith, c.requires.tab_len.0)) in
     let size : c.file_size-size.result ≡ 44 + 4 * length body = omega (arith, c.file_size-size.ensures) in
     let fits : 44 + 4 * length body ≤ length d = omega (arith, c.requires.tab_len.1) in
     c.put_word.ensures

@@ -1,7 +1,10 @@
 -- `file_crc` meets its contract: the second part goes to the end.
-use Rattle.std.proofs.Common.{◌-◌, length, drop, length-drop, arith}
+use Rattle.std.proofs.Common.{◌-◌, length, drop, length-take, length-drop, arith}
 use lib.Seq.{take_all}
 use Rattle.checkpoint.proofs.file_crc.Goals as goal
+
+pub slice_bounds-joined-end : goal.slice_bounds-joined-end
+slice_bounds-joined-end c = simp length-take (omega arith)
 
 pub returns : goal.returns
 returns c =

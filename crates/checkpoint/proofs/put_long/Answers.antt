@@ -1,15 +1,12 @@
--- `put_long` meets its contract: the high word is laid in right behind the low one.
-use Rattle.std.proofs.Common.{◌+◌, ◌%◌, ◌/◌, ap, ◌∙◌, arith}
-use Rattle.model.specs.Checkpoint.{word, long}
-use Rattle.model.proofs.Bytes.{length-word}
-use Rattle.checkpoint.proofs.Lay.{lay_next}
+-- `put_long` meets its contract: the library's bytes are the long word's.
+use Rattle.std.proofs.Common.{◌+◌, ap, ◌∙◌, arith}
+use Rattle.model.specs.Lists.{splice}
+use Rattle.checkpoint.proofs.Bytes.{long_is}
+use Rattle.checkpoint.proofs.Lay.{lay_part}
 use Rattle.checkpoint.proofs.put_long.Goals as goal
 
 pub returns : goal.returns
-unfolding long
 returns c =
     let a = c.args in
-    let x = word (a.x % 4294967296) in
-    c.put_word-2.ensures
-    ∙ lay_next a.d.now x (word (a.x / 4294967296)) a.at (a.at + 4) c.put_word.ensures (omega arith)
-    (ap (λ k. a.at + k) (length-word (a.x % 4294967296)))
+    let e = c.copy_from_slice.ensures.after ∙ c.to_le_bytes.ensures ∙ long_is a.x in
+    lay_part a.d.now c.copy_from_slice.new.self a.at (a.at + 8) (omega arith) ∙ ap (λ b. splice a.at b a.d.now) e

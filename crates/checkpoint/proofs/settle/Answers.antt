@@ -1,63 +1,63 @@
 -- `settle` meets its contract: one turn of the definition's walk.
-use Rattle.std.proofs.Common.{◌≡◌, ◌+◌, ◌*◌, ◌<◌, ℕ, List, true, sym, arith}
-use Rattle.model.specs.declared.Geometry.{Geometry}
-use Rattle.model.specs.Numbers.{Good, empty, seg_of, page_of}
-use Rattle.model.specs.Tables.{at, pages, view}
-use Rattle.model.proofs.Slots.{below_part}
-use Rattle.model.proofs.View.{map_at, set-map}
-use Rattle.checkpoint.specs.Turns.{takes, Turn}
-use Rattle.checkpoint.proofs.Turning.{Room, room, turn-taken, turn_passed}
+use Rattle.std.proofs.Common.{◌≡◌, ◌*◌, ◌+◌, ◌<◌, ℕ, List, true, false, set, sym, refl, ◌∙◌, arith}
+use Rattle.model.specs.declared.Spot.{Spot}
+use Rattle.model.specs.Numbers.{empty, seg_of, page_of}
+use Rattle.model.specs.PageMap.{spot}
+use Rattle.model.specs.Tables.{Tables, at, set_map}
+use Rattle.tables.specs.declared.TablesMut.{TablesMut}
+use Rattle.tables.specs.Parts.{tables_of}
+use Rattle.checkpoint.specs.Turns.{takes, listed, Turn}
+use Rattle.checkpoint.proofs.Turning.{Room, room, Onward, turn_taken, turn_passed}
 use Rattle.checkpoint.proofs.settle.Goals as goal
 
--- a page that is taken is one of the segment's, and both counts have room
-module _ (G : Geometry) (K : Good G) (l : ℕ) (w u s : List ℕ) (T : Turn G l (view G w u) s) (hl : l < G.e)
-    (yes : takes G (at w l) (view G w u) s ≡ true) {g k : ℕ} (eg : g ≡ seg_of G (at w l)) (ek : k ≡ page_of G (at w l)) where
-  has_room : Room G w g k
-  has_room = room G K l w u s T hl (at w l) (map_at G w u l 0 hl) yes eg ek
+module _ (t : TablesMut) (l : ℕ) (s : List ℕ) (r : (l < t.geo.e) × Turn t.geo l (tables_of t) s) where
+  -- the word of logical page l
+  abbrev word : ℕ
+  word = at t.map.now l
 
-  spot_fits : g * G.p + k < pages G
-  spot_fits = below_part G.p has_room.seg has_room.page
+  module _ (yes : takes t.geo word (tables_of t) s ≡ true) (x : Spot) (e : x ≡ spot (seg_of t.geo word) (page_of t.geo word)) where
+    has_room : Room t.geo (tables_of t) x
+    has_room = room t.geo t.good l (tables_of t) s r.1 r.0 word refl yes x e
 
-pub bounds-taken-spot : goal.bounds-taken-spot
-bounds-taken-spot c =
-    let r = c.requires.tab_len in
-    let u = r.2.0 in
-    omega (
-      arith,
-      spot_fits c.args.geo c.requires.good c.args.l.0 c.args.tab.now u c.args.taken.now r.2.1 r.1 (sym (c.if-not-takes.ensures u))
-          c.segment_of-g.ensures
-          c.page_of-k.ensures,
-      r.2.1.marks_size,
-    )
+    taken : (t' : Tables) → t' ≡ listed t.geo l x.segment (tables_of t) → Onward t.geo l (tables_of t) t' (set s (x.segment * t.geo.p + x.page) 1)
+    taken = turn_taken t.geo t.good l (tables_of t) s r.1 r.0 word refl yes x e
 
-pub list_page-requires-clause-tab_len : goal.list_page-requires-clause-tab_len
-list_page-requires-clause-tab_len c =
-    let r = c.requires.tab_len in
-    let u = r.2.0 in
-    let R =
-    has_room c.args.geo c.requires.good c.args.l.0 c.args.tab.now u c.args.taken.now r.2.1 r.1 (sym (c.if-not-takes.ensures u))
-    c.segment_of-g.ensures
-    c.page_of-k.ensures in
-    (r.0, r.1, R.seg, R.valid, R.lens)
+  passed : takes t.geo word (tables_of t) s ≡ false → Onward t.geo l (tables_of t) (set_map (set t.map.now l empty) (tables_of t)) s
+  passed = turn_passed t.geo t.good l (tables_of t) s r.1 r.0 word refl
 
--- not taken
-pub returns-then-not-takes : goal.returns-then-not-takes
-returns-then-not-takes c u T =
-    let G = c.args.geo in
-    let w = c.args.tab.now in
-    let l = c.args.l.0 in
-    let hl = c.requires.tab_len.1 in
-    turn_passed G c.requires.good l (view G w u) c.args.taken.now T hl (at w l) (map_at G w u l 0 hl) (sym (c.if-not-takes.ensures u))
-    (set-map G w u l empty hl)
+pub overflow_mul-taken : goal.overflow_mul-taken
+overflow_mul-taken c =
+    let R = has_room c.args.t.now c.args.l.0 c.args.taken.now c.requires (sym c.takes.ensures ∙ c.if-not-takes.false) _ c.spot_of-at.ensures in
+    omega (arith, R.place, R.few)
 
--- taken
-pub returns : goal.returns
-returns c u T =
-    let G = c.args.geo in
-    let w = c.args.tab.now in
-    let l = c.args.l.0 in
-    let hl = c.requires.tab_len.1 in
-    turn-taken G c.requires.good l (view G w u) c.args.taken.now T hl (at w l) (map_at G w u l 0 hl) (sym (c.if-not-takes.ensures u))
-    c.segment_of-g.ensures
-    c.page_of-k.ensures
-    (c.list_page.ensures u)
+pub overflow_add-taken : goal.overflow_add-taken
+overflow_add-taken c =
+    let R = has_room c.args.t.now c.args.l.0 c.args.taken.now c.requires (sym c.takes.ensures ∙ c.if-not-takes.false) _ c.spot_of-at.ensures in
+    omega (arith, R.place, R.few)
+
+pub bounds-taken-at : goal.bounds-taken-at
+bounds-taken-at c =
+    let R = has_room c.args.t.now c.args.l.0 c.args.taken.now c.requires (sym c.takes.ensures ∙ c.if-not-takes.false) _ c.spot_of-at.ensures in
+    omega (arith, R.place, c.requires.1.marks_size)
+
+pub list_page-requires-clause-in_bounds : goal.list_page-requires-clause-in_bounds
+list_page-requires-clause-in_bounds c =
+    let R = has_room c.args.t.now c.args.l.0 c.args.taken.now c.requires (sym c.takes.ensures ∙ c.if-not-takes.false) _ c.spot_of-at.ensures in
+    (c.requires.0, R.seg)
+
+pub list_page-requires-clause-room : goal.list_page-requires-clause-room
+list_page-requires-clause-room c =
+    let R = has_room c.args.t.now c.args.l.0 c.args.taken.now c.requires (sym c.takes.ensures ∙ c.if-not-takes.false) _ c.spot_of-at.ensures in
+    (R.valid, R.lens)
+
+pub returns-then-not-takes-clause-turn : goal.returns-then-not-takes-clause-turn
+returns-then-not-takes-clause-turn c = (passed c.args.t.now c.args.l.0 c.args.taken.now c.requires (sym c.takes.ensures ∙ c.if-not-takes.true)).0
+
+pub returns-then-not-takes-clause-ending : goal.returns-then-not-takes-clause-ending
+returns-then-not-takes-clause-ending c = (passed c.args.t.now c.args.l.0 c.args.taken.now c.requires (sym c.takes.ensures ∙ c.if-not-takes.true)).1
+
+pub returns-clause-turn : goal.returns-clause-turn
+returns-clause-turn c = (taken c.args.t.now c.args.l.0 c.args.taken.now c.requires (sym c.takes.ensures ∙ c.if-not-takes.false) _ c.spot_of-at.ensures _ c.list_page.ensures.listed).0
+
+pub returns-clause-ending : goal.returns-clause-ending
+returns-clause-ending c = (taken c.args.t.now c.args.l.0 c.args.taken.now c.requires (sym c.takes.ensures ∙ c.if-not-takes.false) _ c.spot_of-at.ensures _ c.list_page.ensures.listed).1

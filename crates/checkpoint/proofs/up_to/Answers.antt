@@ -1,17 +1,18 @@
--- `up_to` meets its contract: what is left of the words decides.
-use Rattle.std.proofs.Common.{sym, ◌∙◌, arith}
-use Rattle.checkpoint.proofs.Lay.{up_more, up_fails, up_end}
+-- `up_to` meets its contract: the words are tested one by one.
+use Rattle.std.proofs.Common.{◌+◌, ◌*◌, leb, ap, ◌∙◌, refl, rules, arith}
+use borrow.Author.Tests.{tests}
+use Rattle.std.proofs.lemmas.Iterator.{YieldsList-from_range}
+use Rattle.std.proofs.lemmas.Iterator.Search.{all_from_yields_List}
+use Rattle.model.specs.Lists.{up_to}
+use Rattle.model.specs.Checkpoint.{word_at, words_at}
+use Rattle.checkpoint.proofs.Lay.{up_to_tests}
 use Rattle.checkpoint.proofs.up_to.Goals as goal
 
-pub returns-then-p-x : goal.returns-then-p-x
-returns-then-p-x c =
-    sym (c.loop-i.invariant.left ∙ up_fails c.args.p c.args.k c.args.s.now c.args.at c.loop-i.i (omega arith) (omega arith))
-
-pub loop-i-preserved : goal.loop-i-preserved
-loop-i-preserved c = record {
-  in_range = omega arith;
-  left = c.loop-i.invariant.left ∙ up_more c.args.p c.args.k c.args.s.now c.args.at c.loop-i.i (omega arith) (omega arith);
-}
-
 pub returns : goal.returns
-returns c = sym (c.loop-i.invariant.left ∙ up_end c.args.p c.args.k c.args.s.now c.args.at c.loop-i.i (omega arith))
+returns c =
+    let a = c.args in
+    let s = a.s.now in
+    all_from_yields_List (λ i. leb (word_at s (a.at + 4 * i)) a.p) _ _ _ c.all.ensures.ran (YieldsList-from_range 0 a.k a.k refl (omega arith))
+    (λ x b q h. search (rules, tests))
+    ∙ up_to_tests a.p a.k s a.at 0
+    ∙ ap (λ j. up_to a.p (words_at a.k s j)) (omega arith)

@@ -1,7 +1,5 @@
 -- `encode` meets its contract: each test that fails, then the file.
-use Rattle.std.proofs.Common.{◌<◌, [], ap, pos, ◌∙◌, arith}
-use mir.Syntax.{w64}
-use mir.ValLaws.{to_z_pos}
+use Rattle.std.proofs.Common.{◌<◌, [], arith}
 use borrow.Author.Tests.{leb-true}
 use Rattle.model.specs.Checkpoint.{file_size}
 use Rattle.model.specs.Entry.{lent, recorder, no_flash}
@@ -11,14 +9,14 @@ use Rattle.ftl.proofs.Files.{encoding_wrong, encoding_size, encoding_unsound, en
 use Rattle.ftl.proofs.Guards.{clean_is, handed_back}
 use Rattle.ftl.proofs.encode.Goals as goal
 
-pub returns-then-not-good : goal.returns-then-not-good
-returns-then-not-good c = encoding_wrong _ _ (told c.good.ensures c.if-not-good.true)
+pub returns-then-not-good-clause-answered : goal.returns-then-not-good-clause-answered
+returns-then-not-good-clause-answered c = encoding_wrong _ _ (told c.good.ensures c.if-not-good.true)
 
 pub encode_fits-requires : goal.encode_fits-requires
 encode_fits-requires c = good_test _ (told c.good.ensures c.if-not-good.false)
 
-pub returns-then-not-encode_fits : goal.returns-then-not-encode_fits
-returns-then-not-encode_fits c = encoding_size _ _ (told c.encode_fits.ensures c.if-not-encode_fits.true)
+pub returns-then-not-encode_fits-clause-answered : goal.returns-then-not-encode_fits-clause-answered
+returns-then-not-encode_fits-clause-answered c = encoding_size _ _ (told c.encode_fits.ensures c.if-not-encode_fits.true)
 
 pub sound-requires : goal.sound-requires
 sound-requires c =
@@ -30,8 +28,8 @@ sound-requires c =
       tab_len = (t.0, t.1, clean_is _ a.seen.now (each _ e 2));
     }
 
-pub returns-then-not-sound : goal.returns-then-not-sound
-returns-then-not-sound c =
+pub returns-then-not-sound-clause-answered : goal.returns-then-not-sound-clause-answered
+returns-then-not-sound-clause-answered c =
     let e = told c.encode_fits.ensures c.if-not-encode_fits.false in
     encoding_unsound _ _ (told c.good.ensures c.if-not-good.false) e _ (handed_back _ _ _ (each _ e 2) c.sound.ensures.seen_after)
     (told c.sound.ensures.value c.if-not-sound.true)
@@ -48,17 +46,16 @@ encode-requires c =
 pub file_size-requires : goal.file_size-requires
 file_size-requires c = good_test _ (told c.good.ensures c.if-not-good.false)
 
-pub overflow_cast-result : goal.overflow_cast-result
-overflow_cast-result c =
-    let s : file_size c.args.geo < 9223372036854775808 = file_small c.args.geo (good_test _ (told c.good.ensures c.if-not-good.false)) in
-    record { sfits = omega (arith, c.file_size.ensures, s) }
-
-pub returns : goal.returns
-returns c =
+pub returns-clause-answered : goal.returns-clause-answered
+returns-clause-answered c =
     let g = told c.good.ensures c.if-not-good.false in
     let e = told c.encode_fits.ensures c.if-not-encode_fits.false in
-    let s : file_size c.args.geo < 9223372036854775808 = file_small c.args.geo (good_test _ g) in
-    encoding-done _ _ g e _ (handed_back _ _ _ (each _ e 2) c.sound.ensures.seen_after)
+    rw c.file_size.ensures
+    (encoding-done _ _ g e _ (handed_back _ _ _ (each _ e 2) c.sound.ensures.seen_after)
     (told c.sound.ensures.value c.if-not-sound.false)
-    _ _ (c.encode.ensures c.args.used.now)
-    (to_z_pos w64 c.file_size.result (omega (arith, c.file_size.ensures, s)) ∙ ap pos c.file_size.ensures)
+    _ (c.encode.ensures c.args.used.now))
+
+pub returns-clause-countable : goal.returns-clause-countable
+returns-clause-countable c =
+    let s : file_size c.args.geo < 9223372036854775808 = file_small c.args.geo (good_test _ (told c.good.ensures c.if-not-good.false)) in
+    omega (arith, c.file_size.ensures, s)

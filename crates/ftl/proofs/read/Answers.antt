@@ -1,13 +1,15 @@
 -- `read` meets its contract, by the laws of reading.
-use Rattle.std.proofs.Common.{◌≡◌, ◌≢◌, ◌+◌, ◌<◌, ◌≤◌, ℕ, [], ◌∷◌, sym, subst, take, drop, ◌∙◌, arith}
-use mir.Syntax.{w64}
-use mir.ValLaws.{to_z_pos}
+use Rattle.std.proofs.Common.{List, length, ◌≡◌, ◌≢◌, ◌+◌, ◌<◌, ◌≤◌, ℕ, [], ◌∷◌, sym, subst, take, drop, ◌∙◌, arith}
 use borrow.Author.Tests.{leb-true, eqb-true, eqb-false}
 use Rattle.model.specs.Lists.{slot, splice}
 use Rattle.model.specs.Numbers.{empty, flat, offset}
-use Rattle.model.specs.Tables.{pages}
+use Rattle.model.specs.declared.Geometry.{Geometry}
+use Rattle.model.specs.Tables.{at, word_of, pages, tab_words, view}
 use Rattle.model.specs.Device.{flash}
 use Rattle.model.specs.Entry.{lent, recorder, no_flash}
+use Rattle.model.proofs.Held.{slots}
+use Rattle.model.proofs.Slots.{any_default}
+use Rattle.model.proofs.View.{map_at}
 use Rattle.model.proofs.Guard.{each, good_test, tables_test}
 use Rattle.guard.proofs.Rows.{told}
 use Rattle.ftl.proofs.Guards.{clean_is, handed_back}
@@ -15,14 +17,14 @@ use Rattle.ftl.proofs.Reading.{word_read, read_wrong, read_size, read_in, read_u
 use Rattle.ftl.proofs.Writing.{offset_lt}
 use Rattle.ftl.proofs.read.Goals as goal
 
-pub returns-then-not-good : goal.returns-then-not-good
-returns-then-not-good c = read_wrong _ _ _ _ (told c.good.ensures c.if-not-good.true)
+pub returns-then-not-good-clause-answered : goal.returns-then-not-good-clause-answered
+returns-then-not-good-clause-answered c = read_wrong _ _ _ _ (told c.good.ensures c.if-not-good.true)
 
 pub read_fits-requires : goal.read_fits-requires
 read_fits-requires c = good_test _ (told c.good.ensures c.if-not-good.false)
 
-pub returns-then-not-read_fits : goal.returns-then-not-read_fits
-returns-then-not-read_fits c = read_size _ _ _ _ (told c.read_fits.ensures c.if-not-read_fits.true)
+pub returns-then-not-read_fits-clause-answered : goal.returns-then-not-read_fits-clause-answered
+returns-then-not-read_fits-clause-answered c = read_size _ _ _ _ (told c.read_fits.ensures c.if-not-read_fits.true)
 
 pub sound-requires : goal.sound-requires
 sound-requires c =
@@ -34,8 +36,8 @@ sound-requires c =
       tab_len = (t.0, t.1, clean_is _ a.seen.now (each _ e 3));
     }
 
-pub returns-then-not-sound : goal.returns-then-not-sound
-returns-then-not-sound c =
+pub returns-then-not-sound-clause-answered : goal.returns-then-not-sound-clause-answered
+returns-then-not-sound-clause-answered c =
     let e = told c.read_fits.ensures c.if-not-read_fits.false in
     read_unsound _ _ _ _ (told c.good.ensures c.if-not-good.false) e _ (handed_back _ _ _ (each _ e 3) c.sound.ensures.seen_after)
     (told c.sound.ensures.value c.if-not-sound.true)
@@ -43,8 +45,8 @@ returns-then-not-sound c =
 pub nonzero_div-l : goal.nonzero_div-l
 nonzero_div-l c = (good_test _ (told c.good.ensures c.if-not-good.false)).s≥
 
-pub returns-then-l-geo : goal.returns-then-l-geo
-returns-then-l-geo c =
+pub returns-then-l-geo-clause-answered : goal.returns-then-l-geo-clause-answered
+returns-then-l-geo-clause-answered c =
     let e = told c.read_fits.ensures c.if-not-read_fits.false in
     read_page _ _ _ _ (told c.good.ensures c.if-not-good.false) e _ (handed_back _ _ _ (each _ e 3) c.sound.ensures.seen_after)
     (told c.sound.ensures.value c.if-not-sound.false) c.if-l-geo.true
@@ -55,29 +57,38 @@ nonzero_rem-off c = (good_test _ (told c.good.ensures c.if-not-good.false)).s≥
 pub overflow_sub-geo : goal.overflow_sub-geo
 overflow_sub-geo c = omega (arith, offset_lt c.args.geo c.args.sector (good_test _ (told c.good.ensures c.if-not-good.false)).s≥)
 
-pub returns-then-length-geo : goal.returns-then-length-geo
-returns-then-length-geo c =
+pub returns-then-length-geo-clause-answered : goal.returns-then-length-geo-clause-answered
+returns-then-length-geo-clause-answered c =
     let g = told c.good.ensures c.if-not-good.false in
     let e = told c.read_fits.ensures c.if-not-read_fits.false in
     read_overrun _ _ _ _ g e _ (handed_back _ _ _ (each _ e 3) c.sound.ensures.seen_after)
     (told c.sound.ensures.value c.if-not-sound.false) c.if-l-geo.false
     (omega (arith, offset_lt c.args.geo c.args.sector (good_test _ g).s≥))
 
-pub word_of-a-requires : goal.word_of-a-requires
-word_of-a-requires c =
+-- the map's word that is read
+word_is : (geo : Geometry) (l : ℕ) (w u : List ℕ) → length w ≡ tab_words geo → l < geo.e → at w l ≡ word_of (view geo w u) l
+word_is geo l w u s h = any_default w l 0 empty (omega arith) ∙ sym (map_at geo w u l empty h)
+
+pub offset_bounds-tab-l : goal.offset_bounds-tab-l
+offset_bounds-tab-l c =
+    let K = good_test _ (told c.good.ensures c.if-not-good.false) in
+    record { fits = omega (arith, c.if-l-geo.false, K.e≤, K.n≤, slots K) }
+
+pub bounds-tab-l : goal.bounds-tab-l
+bounds-tab-l c =
     let a = c.args in
     let e = told c.read_fits.ensures c.if-not-read_fits.false in
-    (c.if-l-geo.false, (tables_test a.geo (lent (recorder a.tab.now a.used.now no_flash) [] []) (each _ e 0)).0)
+    omega (arith, c.if-l-geo.false, (tables_test a.geo (lent (recorder a.tab.now a.used.now no_flash) [] []) (each _ e 0)).0)
 
-pub returns-then-is_empty : goal.returns-then-is_empty
-returns-then-is_empty c =
+pub returns-then-is_empty-clause-answered : goal.returns-then-is_empty-clause-answered
+returns-then-is_empty-clause-answered c =
     let a = c.args in
     let g = told c.good.ensures c.if-not-good.false in
     let e = told c.read_fits.ensures c.if-not-read_fits.false in
     let o : offset a.geo a.sector + a.length ≤ a.geo.s = omega (arith, offset_lt a.geo a.sector (good_test _ g).s≥) in
     read_unmapped _ _ _ _ g e _ (handed_back _ _ _ (each _ e 3) c.sound.ensures.seen_after)
     (told c.sound.ensures.value c.if-not-sound.false) c.if-l-geo.false o
-    (sym (c.word_of-a.ensures a.used.now) ∙ eqb-true _ _ (told c.is_empty.ensures c.if-is_empty.true))
+    (sym (word_is a.geo _ a.tab.now a.used.now (tables_test a.geo (lent (recorder a.tab.now a.used.now no_flash) [] []) (each _ e 0)).0 c.if-l-geo.false) ∙ eqb-true _ _ (told c.is_empty.ensures c.if-is_empty.true))
 
 pub show-requires : goal.show-requires
 show-requires c =
@@ -86,7 +97,7 @@ show-requires c =
     let g = told c.good.ensures c.if-not-good.false in
     let e = told c.read_fits.ensures c.if-not-read_fits.false in
     let o : offset a.geo a.sector + a.length ≤ a.geo.s = omega (arith, offset_lt a.geo a.sector (good_test _ g).s≥) in
-    let w : c.word_of-a.result.0 ≡ word_read a.geo a.sector a.length x = c.word_of-a.ensures a.used.now in
+    let w = word_is a.geo _ a.tab.now a.used.now (tables_test a.geo (lent (recorder a.tab.now a.used.now no_flash) [] []) (each _ e 0)).0 c.if-l-geo.false in
     let m : word_read a.geo a.sector a.length x ≢ empty = λ z. eqb-false _ _ (told c.is_empty.ensures c.if-is_empty.false) (w ∙ z) in
     let f = read_in a.geo a.sector a.length x g e (told c.sound.ensures.value c.if-not-sound.false) m in
     record {
@@ -94,22 +105,21 @@ show-requires c =
       a_bound = (subst (λ (y : ℕ). flat a.geo y < pages a.geo) (sym w) f, o, eqb-true _ _ (each _ e 1), leb-true _ _ (each _ e 2));
     }
 
-pub overflow_cast-result : goal.overflow_cast-result
-overflow_cast-result c = record { sfits = omega (arith, (good_test _ (told c.good.ensures c.if-not-good.false)).s≤) }
-
-pub returns : goal.returns
-returns c =
+pub returns-clause-answered : goal.returns-clause-answered
+returns-clause-answered c =
     let a = c.args in
     let x = lent (recorder a.tab.now a.used.now (flash a.bytes.now [] [] 0)) a.out.now (a.seen.now ∷ []) in
     let g = told c.good.ensures c.if-not-good.false in
     let e = told c.read_fits.ensures c.if-not-read_fits.false in
     let o : offset a.geo a.sector + a.length ≤ a.geo.s = omega (arith, offset_lt a.geo a.sector (good_test _ g).s≥) in
-    let w : c.word_of-a.result.0 ≡ word_read a.geo a.sector a.length x = c.word_of-a.ensures a.used.now in
+    let w = word_is a.geo _ a.tab.now a.used.now (tables_test a.geo (lent (recorder a.tab.now a.used.now no_flash) [] []) (each _ e 0)).0 c.if-l-geo.false in
     let m : word_read a.geo a.sector a.length x ≢ empty = λ z. eqb-false _ _ (told c.is_empty.ensures c.if-is_empty.false) (w ∙ z) in
     read_done _ _ _ _ g e _ (handed_back _ _ _ (each _ e 3) c.sound.ensures.seen_after)
-    (told c.sound.ensures.value c.if-not-sound.false) c.if-l-geo.false o m _ _
+    (told c.sound.ensures.value c.if-not-sound.false) c.if-l-geo.false o m _
     (subst
     (λ (y : ℕ). c.show.new.out ≡ splice 0 (take a.length (drop (offset a.geo a.sector) (slot a.geo.s (flat a.geo y) a.bytes.now))) a.out.now)
     w
     c.show.ensures)
-    (to_z_pos w64 a.length (omega (arith, (good_test a.geo g).s≤)))
+
+pub returns-clause-countable : goal.returns-clause-countable
+returns-clause-countable c = omega (arith, (good_test _ (told c.good.ensures c.if-not-good.false)).s≤)

@@ -1,97 +1,67 @@
 -- `collect` meets its contract: nothing queued, a copy refused, the erase refused, or the victim reset.
-use Rattle.std.proofs.Common.{◌≢◌, ℕ, ◌<◌, refl, sym, ap, ◌∙◌, subst, arith, rules}
-use Rattle.model.specs.Numbers.{Ok}
-use Rattle.model.specs.Tables.{view}
-use Rattle.model.specs.Device.{state, flash, may_erase, erased}
-use Rattle.model.specs.PageGc.{reset, unflag}
-use Rattle.device.specs.Tried.{Tried}
-use Rattle.model.proofs.View.{queued_at}
-use Rattle.model.proofs.Turns.{collect_stops}
-use Rattle.page_gc.proofs.Passes.{took, drained_is, pass_none, pass_refused, pass_done, pass_held}
+use Rattle.std.proofs.Common.{refl, ◌∙◌, arith}
+use Rattle.std.proofs.lemmas.Result.{err_from_is_err_and}
+use Rattle.model.specs.Device.{state}
+use Rattle.tables.specs.Parts.{tables_of}
+use Rattle.device.specs.Lent.{flash_of}
+use Rattle.page_gc.proofs.Passes.{took_sound, took_victim, pass_none, pass_stops, pass_refused, pass_done, pass_sound}
 use Rattle.page_gc.proofs.collect.Goals as goal
 
-pub returns-then-queue_length-eq0-clause-done : goal.returns-then-queue_length-eq0-clause-done
-returns-then-queue_length-eq0-clause-done c = pass_none _ _ _ (sym (c.queue_length.ensures c.args.used.now) ∙ c.if-queue_length-eq0.true)
+pub returns-then-t-eq0-clause-done : goal.returns-then-t-eq0-clause-done
+returns-then-t-eq0-clause-done c = pass_none _ _ _ c.if-t-eq0.true
 
-pub take-v-requires-clause-nonzero : goal.take-v-requires-clause-nonzero
-take-v-requires-clause-nonzero c =
-    let a = c.args in
-    omega (arith, c.queue_length.ensures a.used.now, queued_at a.geo a.tab.now a.used.now, c.if-queue_length-eq0.false)
-
-pub drain-r-requires-clause-held_2 : goal.drain-r-requires-clause-held_2
-drain-r-requires-clause-held_2 c =
-    let a = c.args in
-    let some : 0 < (view a.geo a.tab.now a.used.now).queued = omega (arith, c.queue_length.ensures a.used.now, c.if-queue_length-eq0.false) in
+pub drain-requires-clause-sound : goal.drain-requires-clause-sound
+drain-requires-clause-sound c =
     let t = c.take-v in
-    let k = took a.geo a.bad.now a.tab.now a.used.now c.requires.held_2 some t.result (t.ensures.first a.used.now) t.new.tab t.auto.tab (t.ensures.rest a.used.now) in
-    k.held
+    took_sound c.args.t.now c.requires.sound (omega arith) t.new.t t.ensures.same t.ensures.rest
 
-pub drain-r-requires-clause-v_lt_n : goal.drain-r-requires-clause-v_lt_n
-drain-r-requires-clause-v_lt_n c =
-    let a = c.args in
-    let some : 0 < (view a.geo a.tab.now a.used.now).queued = omega (arith, c.queue_length.ensures a.used.now, c.if-queue_length-eq0.false) in
+pub drain-requires-clause-victim : goal.drain-requires-clause-victim
+drain-requires-clause-victim c =
     let t = c.take-v in
-    let k = took a.geo a.bad.now a.tab.now a.used.now c.requires.held_2 some t.result (t.ensures.first a.used.now) t.new.tab t.auto.tab (t.ensures.rest a.used.now) in
-    (k.seg, k.full, k.flagged)
+    took_victim c.args.t.now c.requires.sound (omega arith) t.new.t t.ensures.same t.ensures.rest t.ensures.first
 
-pub returns-in_default-clause-done : goal.returns-in_default-clause-done
-returns-in_default-clause-done c =
+pub returns-in_err-drain-clause-done : goal.returns-in_err-drain-clause-done
+returns-in_err-drain-clause-done c =
     let a = c.args in
     let t = c.take-v in
-    let d = c.drain-r.new in
-    let t₀ = view a.geo a.tab.now a.used.now in
-    let f₀ = flash a.bytes.now a.marks.now a.counts.now a.fuse.now in
-    let some : t₀.queued ≢ 0 = λ q. c.if-queue_length-eq0.false (c.queue_length.ensures a.used.now ∙ q) in
-    let s = state (view a.geo d.tab d.used) (flash d.bytes d.marks a.counts.now d.fuse) in
-    let D = drained_is a.geo a.bad.now t₀ _ f₀ t.result c.drain-r.result s (t.ensures.first a.used.now) (t.ensures.rest a.used.now) (c.drain-r.ensures.done a.counts.now) in
-    collect_stops a.geo a.bad.now (state t₀ f₀) some _ c.drain-r.result s c.in_default.is D
+    let p = err_from_is_err_and c.from_residual.result c.from_residual.ensures.1 in
+    let D = rw t.ensures.same.geo at (c.in_err-drain.ensures.done a.counts.now) in
+    rw (p.1, p.2)
+    (pass_stops a.t.now.geo a.bad.now (state (tables_of a.t.now) (flash_of a.f.now a.counts.now)) c.if-t-eq0.false t.ensures.first t.ensures.rest D _ refl)
 
-pub erase-ok-requires-clause-g_lt_n : goal.erase-ok-requires-clause-g_lt_n
-erase-ok-requires-clause-g_lt_n c =
-    let a = c.args in
-    let some : 0 < (view a.geo a.tab.now a.used.now).queued = omega (arith, c.queue_length.ensures a.used.now, c.if-queue_length-eq0.false) in
+pub erase-requires : goal.erase-requires
+erase-requires c =
     let t = c.take-v in
-    let k = took a.geo a.bad.now a.tab.now a.used.now c.requires.held_2 some t.result (t.ensures.first a.used.now) t.new.tab t.auto.tab (t.ensures.rest a.used.now) in
-    k.seg
+    let v = took_victim c.args.t.now c.requires.sound (omega arith) t.new.t t.ensures.same t.ensures.rest t.ensures.first in
+    let seg = rw t.ensures.same.geo at v.0 in
+    record { in_bounds = rw (c.drain.ensures.same_flash.geo, c.requires.one_geometry) (seg, c.requires.counts_len.0) }
 
-pub returns-then-not-ok-clause-done : goal.returns-then-not-ok-clause-done
-returns-then-not-ok-clause-done c =
+pub returns-in_err-erase-clause-done : goal.returns-in_err-erase-clause-done
+returns-in_err-erase-clause-done c =
     let a = c.args in
     let t = c.take-v in
-    let d = c.drain-r.new in
-    let t₀ = view a.geo a.tab.now a.used.now in
-    let f₀ = flash a.bytes.now a.marks.now a.counts.now a.fuse.now in
-    let some : t₀.queued ≢ 0 = λ q. c.if-queue_length-eq0.false (c.queue_length.ensures a.used.now ∙ q) in
-    let s = state (view a.geo d.tab d.used) (flash d.bytes d.marks a.counts.now d.fuse) in
-    let D = drained_is a.geo a.bad.now t₀ _ f₀ t.result (Ok c.in-Moved.k) s (t.ensures.first a.used.now) (t.ensures.rest a.used.now) (c.in-Moved.ensures.done a.counts.now) in
-    let e = c.erase-ok.new in
-    let f = flash e.bytes e.marks e.counts e.fuse in
-    let tried =
-    subst (λ (v : ℕ). Tried (may_erase a.geo v s.flash) (erased a.geo v s.flash) s.flash c.erase-ok.result f) (t.ensures.first a.used.now) c.erase-ok.ensures in
-    pass_refused a.geo a.bad.now (state t₀ f₀) some c.in-Moved.k s D c.erase-ok.result f tried c.if-not-ok.true refl
+    let p = err_from_is_err_and c.from_residual-in_err-erase.result c.from_residual-in_err-erase.ensures.1 in
+    let D = rw t.ensures.same.geo at (c.in_ok-drain.ensures.done a.counts.now) in
+    let E = rw (c.drain.ensures.same_flash.geo, c.requires.one_geometry) at c.in_err-erase.ensures.tried in
+    rw (p.1, p.2)
+    (pass_refused a.t.now.geo a.bad.now (state (tables_of a.t.now) (flash_of a.f.now a.counts.now)) c.if-t-eq0.false t.ensures.first t.ensures.rest D _ refl E)
 
-pub returns : goal.returns
-returns c =
+pub returns-clause-done : goal.returns-clause-done
+returns-clause-done c =
     let a = c.args in
     let t = c.take-v in
-    let d = c.drain-r.new in
-    let t₀ = view a.geo a.tab.now a.used.now in
-    let f₀ = flash a.bytes.now a.marks.now a.counts.now a.fuse.now in
-    let some : t₀.queued ≢ 0 = λ q. c.if-queue_length-eq0.false (c.queue_length.ensures a.used.now ∙ q) in
-    let s = state (view a.geo d.tab d.used) (flash d.bytes d.marks a.counts.now d.fuse) in
-    let D = drained_is a.geo a.bad.now t₀ _ f₀ t.result (Ok c.in-Moved.k) s (t.ensures.first a.used.now) (t.ensures.rest a.used.now) (c.in-Moved.ensures.done a.counts.now) in
-    let e = c.erase-ok.new in
-    let f = flash e.bytes e.marks e.counts e.fuse in
-    let tried =
-    subst (λ (v : ℕ). Tried (may_erase a.geo v s.flash) (erased a.geo v s.flash) s.flash c.erase-ok.result f) (t.ensures.first a.used.now) c.erase-ok.ensures in
-    let done =
-    pass_done a.geo a.bad.now (state t₀ f₀) some c.in-Moved.k s D c.erase-ok.result f tried c.if-not-ok.false
-    (c.reset_segment.ensures ∙ ap (λ (v : ℕ). unflag a.geo v (reset a.geo v s.tab)) (t.ensures.first a.used.now)) in
-    let long = c.reset_segment.auto.tab ∙ c.drain-r.auto.tab ∙ t.auto.tab in
-    record {
-      done = done;
-      held = pass_held a.geo a.bad.now a.tab.now a.used.now a.bytes.now a.marks.now a.counts.now a.page.now a.fuse.now
-          c.requires.held_2 c.requires.ready_2 c.requires.counts_len.0 _ _ _ _ long done;
-      ready = search rules;
-      clean = search rules;
-    }
+    let D = rw t.ensures.same.geo at (c.in_ok-drain.ensures.done a.counts.now) in
+    let E = rw (c.drain.ensures.same_flash.geo, c.requires.one_geometry) at c.in_ok-erase.ensures.tried in
+    let R = rw (c.drain.ensures.same.geo, t.ensures.same.geo) at c.reset_segment.ensures.reset in
+    pass_done a.t.now.geo a.bad.now (state (tables_of a.t.now) (flash_of a.f.now a.counts.now)) c.if-t-eq0.false t.ensures.first t.ensures.rest D _ refl E R
+
+pub returns-clause-sound : goal.returns-clause-sound
+returns-clause-sound c =
+    let a = c.args in
+    let t = c.take-v in
+    let D = rw t.ensures.same.geo at (c.in_ok-drain.ensures.done a.counts.now) in
+    let E = rw (c.drain.ensures.same_flash.geo, c.requires.one_geometry) at c.in_ok-erase.ensures.tried in
+    let R = rw (c.drain.ensures.same.geo, t.ensures.same.geo) at c.reset_segment.ensures.reset in
+    pass_sound a.bad.now a.t.now a.f.now a.counts.now c.requires.sound c.requires.one_geometry c.requires.counts_len.0
+    c.reset_segment.new.t (c.reset_segment.ensures.same.geo ∙ c.drain.ensures.same.geo ∙ t.ensures.same.geo)
+    (pass_done a.t.now.geo a.bad.now (state (tables_of a.t.now) (flash_of a.f.now a.counts.now)) c.if-t-eq0.false t.ensures.first t.ensures.rest D _ refl E R)

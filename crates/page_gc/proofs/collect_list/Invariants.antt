@@ -1,12 +1,12 @@
--- Before each turn k are counted.
-use Rattle.std.proofs.Common.{◌-◌}
+-- Before each turn k passes were counted.
+use Rattle.std.proofs.Common.{◌≡◌}
+use Rattle.model.specs.Lists.{zeros}
 use Rattle.page_gc.proofs.Passes.{Listing}
 use Rattle.page_gc.proofs.collect_list.Given as goal
 
 abbrev pub invariant-loop-k : goal.invariant-loop-k
 invariant-loop-k l =
-    Listing l.geo l.bad l.m l.initial.tab l.initial.used l.initial.bytes l.initial.marks l.initial.counts l.initial.fuse
-    l.tab l.used l.bytes l.marks l.counts l.page l.order l.fuse l.k
-
-abbrev pub decreases-loop-k : goal.decreases-loop-k
-decreases-loop-k l = l.m - l.k
+    record {
+      listing : Listing l.bad l.m l.initial.t l.initial.f l.initial.counts l.t l.f l.counts l.k;
+      clean : (l.page ≡ zeros l.initial.t.geo.s) × (l.order ≡ zeros l.initial.t.geo.n);
+    }

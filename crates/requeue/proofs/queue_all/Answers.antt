@@ -1,15 +1,27 @@
--- `queue_all` meets its contract: before each turn, what is left of the definition's walk gives the whole.
-use Rattle.std.proofs.Common.{arith}
-use Rattle.requeue.proofs.Laws.{walk_more, walk_end}
+-- Each turn is the definition's: `walk_queued`, `walk_passed`; and at the end nothing is left: `walk_end`.
+use Rattle.std.proofs.Common.{sym, ◌∙◌, arith, rules}
+use Rattle.tables.specs.Parts.{tables_of}
+use Rattle.requeue.proofs.Laws.{walk_queued, walk_passed, walk_end}
 use Rattle.requeue.proofs.queue_all.Goals as goal
+use Rattle.requeue.proofs.queue_all.Goals.{then-is_dead, else-is_dead}
 
-pub loop-left-preserved : goal.loop-left-preserved
-loop-left-preserved c = record {
-  in_range = omega arith;
-  walked =
-      walk_more c.args.geo c.args.tab.now c.loop-left.left (omega arith) c.loop-left.invariant.in_range c.loop-left.tab c.queue_if_dead.new.tab
-      c.loop-left.invariant.walked c.queue_if_dead.ensures;
-}
+pub loop-g-preserved : goal.loop-g-preserved
+loop-g-preserved c =
+    let G = c.args.t.now.geo in
+    let start = tables_of c.args.t.now in
+    let g = c.loop-g.g in
+    let t = tables_of c.loop-g.t in
+    let W = c.loop-g.invariant.walked in
+    let geo = c.loop-g.invariant.same.geo in
+    elim c.if-is_dead.branch [
+      | then-is_dead w ↦
+          let dead = rw geo at (sym c.is_dead.ensures ∙ w.if-is_dead.true) in
+          rw w.t-is record { same = search rules; walked = rw w.queue_last.ensures.queued (walk_queued G start g t W c.loop-g-test.true dead) }
+      | else-is_dead w ↦
+          let live = rw geo at (sym c.is_dead.ensures ∙ w.if-is_dead.false) in
+          rw w.t-is record { same = c.loop-g.invariant.same; walked = walk_passed G start g t W c.loop-g-test.true live }
+    ]
 
-pub returns : goal.returns
-returns c u = walk_end c.args.geo c.args.tab.now c.loop-left.left c.loop-left.tab (omega arith) c.loop-left.invariant.walked u
+pub returns-clause-queued : goal.returns-clause-queued
+returns-clause-queued c =
+    walk_end c.args.t.now.geo (tables_of c.args.t.now) c.loop-g.g (tables_of c.loop-g.t) c.loop-g.invariant.walked (omega arith)

@@ -4,4 +4,4 @@ use Rattle.model.proofs.Guard.{good_test}
 use Rattle.sizes.proofs.sized.Goals as goal
 
 pub size_of-requires : goal.size_of-requires
-size_of-requires c = good_test c.args.geo (sym c.if-not-good.ensures)
+size_of-requires c = good_test c.args.geo (sym c.if-good.ensures)

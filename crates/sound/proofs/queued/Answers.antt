@@ -1,9 +1,10 @@
 -- It clears the marks that `mark_queue` set.
-use Rattle.std.proofs.Common.{◌∙◌, length}
+use Rattle.std.proofs.Common.{length, arith}
 use Rattle.sound.proofs.Scratch.{cleared}
 use Rattle.sound.proofs.queued.Goals as goal
 
 pub returns-clause-seen_unchanged : goal.returns-clause-seen_unchanged
 returns-clause-seen_unchanged c =
-    c.clear.ensures
-    ∙ cleared c.args.seen.now _ (length c.args.free.now) c.requires.seen_value.0 c.requires.seen_value.1 c.mark_queue-ok.ensures.seen_unchanged
+    let r = c.requires.seen_value in
+    cleared c.args.seen.now c.mark_queue-ok.new.seen c.fill.new.self (length c.args.free.now) r.0 r.1 (omega arith)
+    c.mark_queue-ok.ensures.seen_unchanged (c.fill.ensures.after (λ y e. e))

@@ -1,7 +1,6 @@
 -- `device::FlashMut::format` meets its contract. Assumes nothing.
-use Rattle.std.proofs.Common.{arith}
+use Rattle.std.proofs.Common.{arith, rules}
 use Rattle.device.proofs.Formatting.{goes_on, stops, ends}
-use Rattle.device.proofs.Same.{same_twice}
 use Rattle.device.proofs.FlashMut.format.Goals as goal
 
 pub returns-then-self-eq0-clause-formatted : goal.returns-then-self-eq0-clause-formatted
@@ -12,7 +11,7 @@ loop-g-preserved c =
     let s = c.loop-g.invariant.same in
     let b = c.blank_segment.ensures.blank c.loop-g.counts 0 in
     record {
-      same = same_twice s c.blank_segment.ensures.same;
+      same = search rules;
       left = goes_on c.loop-g.invariant.left c.loop-g-test.true (omega arith) (rw s.geo at b);
     }
 
