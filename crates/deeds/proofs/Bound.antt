@@ -8,9 +8,8 @@ use lib.Dec.{ltb}
 use lib.ListN.{length, take}
 use borrow.Author.Tests.{ltb-true}
 use Rattle.model.specs.declared.Geometry.{Geometry}
-use Rattle.records.specs.declared.Header.TheVariants.{Ready}
-use Rattle.records.specs.declared.Next.{Next}
-use Rattle.records.specs.declared.Next.TheVariants.{Found, Bad}
+use Rattle.std.proofs.Common.{Option, Some, None, Ok}
+use Rattle.records.specs.declared.Record.{Record}
 use Rattle.records.specs.Trace.{next_record}
 use Rattle.records.proofs.Places.{Placed, record_placed}
 use Rattle.deeds.specs.Deeds.{Kept, kept_after, line_after}
@@ -27,12 +26,12 @@ agree a b on on' last same = go (ltb a b) refl
 module _ (G : Geometry) (bad xs : List ℕ) where
   -- a turn goes on behind its place only
   turn-goes-on
-      : (at : ℕ) (k : Kept) (x : Next) (f g : ℕ → Kept → List ℕ)
+      : (at : ℕ) (k : Kept) (x : Option (Record × ℕ)) (f g : ℕ → Kept → List ℕ)
       → Placed xs at x
       → ((next : ℕ) (k : Kept) → at < next → f next k ≡ g next k)
       → turn G bad xs k x f ≡ turn G bad xs k x g
-  turn-goes-on at k Bad f g p h = refl
-  turn-goes-on at k (Found e next) f g p h = ap (λ rest. line_after G bad xs k e ++ rest) (h next (kept_after G bad xs k e) p.0)
+  turn-goes-on at k None f g p h = refl
+  turn-goes-on at k (Some (e, next)) f g p h = ap (λ rest. line_after G bad xs k e ++ rest) (h next (kept_after G bad xs k e) p.0)
 
   -- the bytes left are `length xs - at`; each record takes one of them at least
   pub bound_enough
@@ -52,7 +51,7 @@ module _ (G : Geometry) (bad xs : List ℕ) where
 pub any-bound
     : (xs marks : List ℕ) (G : Geometry) (first bound : ℕ)
     → length xs < bound
-    → let bad = take G.n marks in said xs (Ready G first) marks ≡ lines G bad xs bound first (fresh G bad xs)
+    → let bad = take G.n marks in said xs (Ok (G, first)) marks ≡ lines G bad xs bound first (fresh G bad xs)
 any-bound xs marks G first bound h =
     let bad = take G.n marks in
     bound_enough G bad xs (suc (length xs)) bound first (fresh G bad xs) (omega arith) (omega arith)

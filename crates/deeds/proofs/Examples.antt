@@ -17,7 +17,7 @@ use Rattle.model.specs.PageGc.{sorted, finish_of, drain, collect_of, collect, co
 use Rattle.model.specs.Checkpoint.{used_by, word, long, words, word_at, long_at, words_at, head, file, reason_of, welcome, settle_all, restored, queue_dead}
 use Rattle.model.specs.Entry.{unless, guarded, clean, formatting, opening, read, encoding, restoring, write, collection, list_collection}
 use Rattle.numbers.specs.Groups.{longer, groups}
-use Rattle.records.specs.Trace.{marking, header, write_record, read_record, list_record, record_of}
+use Rattle.records.specs.Trace.{marking, front, header, write_record, read_record, list_record, record_of}
 use Rattle.lines.specs.Text.{digits, hex}
 use Rattle.deeds.specs.Output.{stopped, entries, lines, output}
 
@@ -160,7 +160,7 @@ unfolding
     format_from clear_from find_from find invalidate forget old_page write_at write_page sorted finish_of drain collect_of collect collect_more
     collect_list used_by word long words word_at long_at words_at head file reason_of welcome settle_all restored queue_dead unless guarded clean formatting
     opening read encoding restoring write collection list_collection plus add among powers low remainder bits_of bits digit value_of dividend
-    crc32 longer groups marking header write_record read_record list_record record_of digits hex entries lines output
+    crc32 longer groups marking front header write_record read_record list_record record_of digits hex entries lines output
 told = refl
 
 -- "too long an input only `t !3`"

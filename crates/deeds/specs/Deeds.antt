@@ -1,21 +1,16 @@
 -- Document 01, "Trace program": what a record does, and the line that it gives.
-use Rattle.std.specs.Prelude.{ℕ, ◌≡◌, List, [], ◌∷◌, ℤ, pos, negsuc, length, take, drop}
+use Rattle.std.specs.Prelude.{ℕ, ◌≡◌, Option, Some, None, List, [], ◌∷◌, length, take, drop}
 use Rattle.model.specs.declared.Geometry.{Geometry}
 use Rattle.model.specs.Lists.{zeros, splice}
+use Rattle.model.specs.Numbers.{Answer, Ok, Err, number}
 use Rattle.model.specs.declared.Numbers.TheVariants.{Old}
-use Rattle.model.specs.Numbers.{number}
 use Rattle.model.specs.Tables.{pages}
 use Rattle.model.specs.Entry.{Recorder, Outcome, page_scratch, seen_scratch}
 use Rattle.model.specs.History as call
 use Rattle.records.specs.declared.Record.{Record}
 use Rattle.records.specs.declared.Record.TheVariants.{Write, Read, Collect, CollectList, Checkpoint, Restore}
-use Rattle.records.specs.declared.Next.{Next}
-use Rattle.records.specs.declared.Next.TheVariants.{Found, Bad}
 use Rattle.lines.specs.Text.{line, answer_line, hex}
-pub use Rattle.deeds.specs.declared.Count.{Count}
-pub use Rattle.deeds.specs.declared.Count.TheVariants.{Moved, Refused}
-pub use Rattle.deeds.specs.declared.Turn.{Turn}
-pub use Rattle.deeds.specs.declared.Turn.TheVariants.{Told, Malformed}
+use Rattle.deeds.specs.declared.Told.{Told}
 
 -- what is kept from record to record: the recorder, the buffer that a read fills, and that of the last checkpoint with the checkpoint's length
 pub record Kept : Type 0 where
@@ -27,37 +22,32 @@ pub record Kept : Type 0 where
 abbrev pub kept : Recorder → (out file : List ℕ) → ℕ → Kept
 kept u o f k = record { unit = u; out = o; file = f; stored = k }
 
--- an answer by its sign
-abbrev pub count_of : ℤ → Count
-count_of (pos m) = Moved m
-count_of (negsuc k) = Refused
-
 -- "a read gives its bytes in lower hex"
-abbrev pub read_line : Count → ℤ → List ℕ → List ℕ
-read_line (Moved m) r out = line 114 (hex (take m out))
-read_line Refused r out = answer_line 114 r
+abbrev pub read_line : Answer → List ℕ → List ℕ
+read_line (Ok m) out = line 114 (hex (take m out))
+read_line (Err c) out = answer_line 114 (number Old (Err c))
 
 -- "`w`, `r`, `g`, `l`, `c` or `s`, a space and the answer"
-abbrev pub line_of : Record → ℤ → List ℕ → List ℕ
-line_of (Write sector len at) r out = answer_line 119 r
-line_of (Read sector len) r out = read_line (count_of r) r out
-line_of Collect r out = answer_line 103 r
-line_of (CollectList m) r out = answer_line 108 r
-line_of Checkpoint r out = answer_line 99 r
-line_of (Restore q) r out = answer_line 115 r
+abbrev pub line_of : Record → Answer → List ℕ → List ℕ
+line_of (Write sector len at) a out = answer_line 119 (number Old a)
+line_of (Read sector len) a out = read_line a out
+line_of Collect a out = answer_line 103 (number Old a)
+line_of (CollectList m) a out = answer_line 108 (number Old a)
+line_of Checkpoint a out = answer_line 99 (number Old a)
+line_of (Restore q) a out = answer_line 115 (number Old a)
 
 -- "the last checkpoint, which is empty at first": what an encoding gives that is not refused
-abbrev pub encoded : Count → ℕ → ℕ
-encoded (Moved m) stored = m
-encoded Refused stored = stored
+abbrev pub encoded : Answer → ℕ → ℕ
+encoded (Ok m) stored = m
+encoded (Err c) stored = stored
 
-abbrev pub stored_of : Record → ℤ → ℕ → ℕ
-stored_of (Write sector len at) r stored = stored
-stored_of (Read sector len) r stored = stored
-stored_of Collect r stored = stored
-stored_of (CollectList m) r stored = stored
-stored_of Checkpoint r stored = encoded (count_of r) stored
-stored_of (Restore q) r stored = stored
+abbrev pub stored_of : Record → Answer → ℕ → ℕ
+stored_of (Write sector len at) a stored = stored
+stored_of (Read sector len) a stored = stored
+stored_of Collect a stored = stored
+stored_of (CollectList m) a stored = stored
+stored_of Checkpoint a stored = encoded a stored
+stored_of (Restore q) a stored = stored
 
 -- the buffers after a call that left b
 abbrev pub out_of : Record → List ℕ → List ℕ → List ℕ
@@ -89,8 +79,8 @@ module _ (G : Geometry) (bad xs : List ℕ) where
   abbrev pub done : Kept → Record → Outcome
   done k r = call.run G bad (call_of k r) k.unit
 
-  abbrev pub answer_to : Kept → Record → ℤ
-  answer_to k r = number Old (done k r).answer
+  abbrev pub answer_to : Kept → Record → Answer
+  answer_to k r = (done k r).answer
 
   -- what is kept after it, and its line
   abbrev pub kept_after : Kept → Record → Kept
@@ -101,19 +91,18 @@ module _ (G : Geometry) (bad xs : List ℕ) where
   abbrev pub line_after : Kept → Record → List ℕ
   line_after k r = line_of r (answer_to k r) (kept_after k r).out
 
--- a record was done: the recorder u, the buffers o and f and the answer r are the definition's
-pub record Performed (G : Geometry) (bad xs : List ℕ) (k : Kept) (e : Record) (u : Recorder) (o f : List ℕ) (r : ℤ) : Type 0 where
-  pub unit_is : u ≡ (kept_after G bad xs k e).unit
-  pub out_is : o ≡ (kept_after G bad xs k e).out
-  pub file_is : f ≡ (kept_after G bad xs k e).file
-  pub answer_is : r ≡ answer_to G bad xs k e
+-- a record was done: what is kept in k' and the answer a are the definition's
+pub record Performed (G : Geometry) (bad xs : List ℕ) (k : Kept) (e : Record) (k' : Kept) (a : Answer) : Type 0 where
+  pub kept_is : k' ≡ kept_after G bad xs k e
+  pub answer_is : a ≡ answer_to G bad xs k e
+
+abbrev pub told : (next length : ℕ) → Told
+told n l = record { next = n; length = l }
 
 -- one turn of the trace: the record found is done and its line laid in front of what stood in the buffer l; a malformed one changes nothing
-abbrev pub Turned : (G : Geometry) (bad xs : List ℕ) → Kept → Next → (l : List ℕ) → (u : Recorder) (o f l' : List ℕ) → Turn → Type 0
-Turned G bad xs k Bad l u o f l' t = (t ≡ Malformed) × (u ≡ k.unit) × (o ≡ k.out) × (f ≡ k.file) × (l' ≡ l)
-Turned G bad xs k (Found e next) l u o f l' t =
-    (t ≡ Told next (kept_after G bad xs k e).stored (length (line_after G bad xs k e)))
-    × (u ≡ (kept_after G bad xs k e).unit)
-    × (o ≡ (kept_after G bad xs k e).out)
-    × (f ≡ (kept_after G bad xs k e).file)
+abbrev pub Turned : (G : Geometry) (bad xs : List ℕ) → Kept → Option (Record × ℕ) → (l : List ℕ) → Kept → (l' : List ℕ) → Option Told → Type 0
+Turned G bad xs k None l k' l' t = (t ≡ None) × (k' ≡ k) × (l' ≡ l)
+Turned G bad xs k (Some (e, next)) l k' l' t =
+    (t ≡ Some (told next (length (line_after G bad xs k e))))
+    × (k' ≡ kept_after G bad xs k e)
     × (l' ≡ splice 0 (line_after G bad xs k e) l)

@@ -1,46 +1,39 @@
--- A promise of an entry says what its call with clean scratch does.
-use Prim.Native.Nat.{ℕ, zero, suc, ◌-◌, ◌≤◌, ◌<◌}
-use mathlib.Core.Path.{◌≡◌, refl, ap, ◌∙◌, subst}
-use mathlib.Core.List.{List, [], ◌∷◌}
-use native.Mathlib.Nat.{sub-zero}
-use native.Mathlib.Omega.{arith}
-use lib.IntN.{ℤ}
-use lib.Signed.{mag}
-use lib.ListN.{take, replicate}
-use mir.Syntax.{w64}
-use mir.Val.{to_z, of_z}
-use mir.Facts.{to_z-of_z}
-use borrow.Author.Rules.{sfits_of}
+-- What an entry promises is what its call with clean scratch does.
+use Rattle.std.proofs.Common.{ℕ, ◌≤◌, ◌≡◌, List, [], ◌∷◌, take, replicate, sym, ap, ◌∙◌, subst}
+use Rattle.std.proofs.lemmas.List.{take-replicate}
 use Rattle.model.specs.Lists.{zeros}
-use Rattle.model.specs.Entry.{Lent, Outcome, Promise}
+use Rattle.model.specs.Numbers.{Answer}
+use Rattle.model.specs.Device.{Flash}
+use Rattle.model.specs.Entry.{Recorder, recorder, Lent, Outcome, Answered}
+use Rattle.model.proofs.Frame.{over, with_flash}
 use Rattle.lending.specs.Does.{Does}
 
--- What is left beside the scratch, and the answer, which is read back from a word. The entry is lent the data d and the scratch s: what they are
--- equal to may stand for them.
-pub does_with : (f : List ℕ → List (List ℕ) → Outcome) {d c : List ℕ} {s t : List (List ℕ)} {x : Lent} {z : ℤ}
-    → mag z < 9223372036854775808 → d ≡ c → s ≡ t → Promise (f d s) x z
-    → Does (f c t) x.unit x.buffer (to_z w64 (of_z w64 z))
-does_with f {d} {c} {s} {t} {x} {z} l e g P =
-    subst (λ d. Does (f d t) x.unit x.buffer (to_z w64 (of_z w64 z))) e
-    (subst (λ s. Does (f d s) x.unit x.buffer (to_z w64 (of_z w64 z))) g
+-- what is left beside the scratch, and the answer; what the scratch s is equal to may stand for it
+pub does : (f : List (List ℕ) → Outcome) {s t : List (List ℕ)} {x : Lent} {a : Answer} → Answered (f s) x a → s ≡ t → Does (f t) x.unit x.buffer a
+does f {x = x} {a = a} A e =
+    subst (λ s. Does (f s) x.unit x.buffer a) e
     (record {
-      unit_is = ap (λ (x : Lent). x.unit) P.left_is;
-      buffer_is = ap (λ (x : Lent). x.buffer) P.left_is;
-      answer_is = to_z-of_z {w = w64} (sfits_of l) ∙ P.answer_is;
-    }))
+      unit_is = ap (λ (x : Lent). x.unit) A.left_is;
+      buffer_is = ap (λ (x : Lent). x.buffer) A.left_is;
+      answer_is = A.answer_is;
+    })
 
-pub does : (f : List (List ℕ) → Outcome) {s t : List (List ℕ)} {x : Lent} {z : ℤ} → mag z < 9223372036854775808 → s ≡ t → Promise (f s) x z
-    → Does (f t) x.unit x.buffer (to_z w64 (of_z w64 z))
-does f l g P = does_with (λ d. f) {d = []} l refl g P
+-- an entry that is lent no flash, or its bytes alone, passes the rest of the flash by
+pub beside
+    : (f : Flash) {o o' : Outcome} {w u b : List ℕ} {g : Flash} {a : Answer}
+    → o' ≡ over (with_flash f) o
+    → Does o (recorder w u g) b a
+    → Does o' (recorder w u f) b a
+beside f e D =
+    record {
+      unit_is = ap (λ (r : Recorder). recorder r.words r.used f) D.unit_is ∙ sym (ap (λ (o : Outcome). o.left.unit) e);
+      buffer_is = D.buffer_is ∙ sym (ap (λ (o : Outcome). o.left.buffer) e);
+      answer_is = D.answer_is ∙ sym (ap (λ (o : Outcome). o.answer) e);
+    }
 
 -- a part of clean scratch, from its front
-pub cut : (m k : ℕ) → k ≤ m → take (k - 0) (replicate m 0) ≡ zeros k
-cut m k h = ap (λ j. take j (replicate m 0)) (sub-zero k) ∙ go m k h
-  where
-    go : (m k : ℕ) → k ≤ m → take k (replicate m 0) ≡ zeros k
-    go m zero h = refl
-    go zero (suc k) h = absurd (omega (arith, h))
-    go (suc m) (suc k) h = ap (λ xs. 0 ∷ xs) (go m k (omega (arith, h)))
+pub cut : (m : ℕ) {j k : ℕ} → j ≤ m → j ≡ k → take j (replicate m 0) ≡ zeros k
+cut m {j} h e = take-replicate j m 0 h ∙ ap zeros e
 
 -- one, two or three pieces of it
 pub one : {a a' : List ℕ} → a ≡ a' → (a ∷ []) ≡ (a' ∷ [])

@@ -1,202 +1,167 @@
 // The public entries with clean scratch of their own, for a program that keeps none. The scratch is enough for the geometries of a trace.
 #![tactic(auto)]
 
-ghost use Rattle.std.specs.Prelude.{[], ◌∷◌, ◌+◌, ◌≤◌, length, take, drop};
-ghost use Rattle.model.specs.Lists.{zeros};
-ghost use Rattle.model.specs.Tables.{pages};
-ghost use Rattle.model.specs.Device.{flash};
-ghost use Rattle.model.specs.Entry.{recorder, lent, no_flash, page_scratch, seen_scratch};
-ghost use Rattle.model.specs.Entry.{write, read, collection, list_collection, encoding, restoring};
-ghost use Rattle.lending.specs.Does.{Small, Does};
+use model::{Answer, Geometry, Queueing};
 
-use model::{Geometry, Numbers, Queueing};
-
-// Bytes that stand at a place of xs, written at a sector.
-pub fn write(
-    geo: Geometry,
-    sector: usize,
-    len: usize,
-    at: usize,
-    xs: &[u8],
-    bad: &[u8],
-    tab: &mut [u32],
-    used: &mut [u8],
-    bytes: &mut [u8],
-    marks: &mut [u8],
-    counts: &[u32],
-    fuse: &mut u64,
-) -> i64
-    requires small { Small geo }
-    requires len_in_bounds { at + len ≤ length xs.now }
-    ensures { Does
-        (write geo bad.now sector len (take len (drop at xs.now))
-        (lent (recorder tab.old used.old (flash bytes.old marks.old counts.now fuse.old)) []
-        (zeros (page_scratch geo) ∷ zeros (seen_scratch geo) ∷ [])))
-        (recorder tab.new used.new (flash bytes.new marks.new counts.now fuse.new)) [] result }
-{
-    let mut page_space = [0u8; 512];
-    let mut seen_space = [0u8; 2048];
-    let page: &mut [u8] = &mut page_space;
-    let seen: &mut [u8] = &mut seen_space;
-    let end = at + len;
-    let s = geo.s;
-    let t = geo.n + geo.p;
-    ftl::write(
-        geo,
-        Numbers::Old,
-        sector,
-        len,
-        &xs[at..end],
-        bad,
-        tab,
-        used,
-        bytes,
-        marks,
-        counts,
-        fuse,
-        &mut page[0..s],
-        &mut seen[0..t],
-    )
+// What a program keeps from call to call: the words and use marks of its tables, and its flash.
+#[derive(Drop)]
+pub struct Unit<'a> {
+    pub tab: &'a mut [u32],
+    pub used: &'a mut [u8],
+    pub bytes: &'a mut [u8],
+    pub marks: &'a mut [u8],
+    pub counts: &'a mut [u32],
+    pub fuse: &'a mut u64,
 }
 
-// Bytes at a sector, into the front of out.
-pub fn read(
-    geo: Geometry,
-    sector: usize,
-    length: usize,
-    tab: &[u32],
-    used: &[u8],
-    bytes: &[u8],
-    out: &mut [u8],
-) -> i64
-    requires { Small geo }
-    ensures { Does
-        (read geo sector length (lent (recorder tab.now used.now (flash bytes.now [] [] 0)) out.old
-        (zeros (seen_scratch geo) ∷ [])))
-        (recorder tab.now used.now (flash bytes.now [] [] 0)) out.new result }
-{
-    let mut seen_space = [0u8; 2048];
-    let seen: &mut [u8] = &mut seen_space;
-    let t = geo.n + geo.p;
-    ftl::read(geo, sector, length, tab, used, bytes, out, &mut seen[0..t])
-}
+impl Unit<'_> {
+    ghost use Rattle.std.specs.Prelude.{[], ◌∷◌, length};
+    ghost use Rattle.guard.specs.Countable.{Countable};
+    ghost use Rattle.model.specs.Lists.{zeros};
+    ghost use Rattle.model.specs.Tables.{pages};
+    ghost use Rattle.model.specs.Entry.{lent, page_scratch, seen_scratch};
+    ghost use Rattle.model.specs.Entry.{write, read, collection, list_collection, encoding, restoring};
+    ghost use Rattle.lending.specs.Does.{Small, Does};
+    ghost use Rattle.lending.specs.Unit.{recorder_of, Same};
 
-// One collection.
-pub fn collect(
-    geo: Geometry,
-    bad: &[u8],
-    tab: &mut [u32],
-    used: &mut [u8],
-    bytes: &mut [u8],
-    marks: &mut [u8],
-    counts: &mut [u32],
-    fuse: &mut u64,
-) -> i64
-    requires { Small geo }
-    ensures { Does
-        (collection geo bad.now (lent (recorder tab.old used.old (flash bytes.old marks.old counts.old fuse.old)) []
-        (zeros (page_scratch geo) ∷ zeros (seen_scratch geo) ∷ zeros geo.n ∷ [])))
-        (recorder tab.new used.new (flash bytes.new marks.new counts.new fuse.new)) [] result }
-{
-    let mut page_space = [0u8; 512];
-    let mut seen_space = [0u8; 2048];
-    let mut order_space = [0u32; 1024];
-    let page: &mut [u8] = &mut page_space;
-    let seen: &mut [u8] = &mut seen_space;
-    let order: &mut [u32] = &mut order_space;
-    let s = geo.s;
-    let t = geo.n + geo.p;
-    let n = geo.n;
-    ftl::collect(
-        geo,
-        Numbers::Old,
-        bad,
-        tab,
-        used,
-        bytes,
-        marks,
-        counts,
-        fuse,
-        &mut page[0..s],
-        &mut seen[0..t],
-        &mut order[0..n],
-    )
-}
+    // Bytes written at a sector.
+    pub fn write(&mut self, geo: Geometry, sector: usize, xs: &[u8], bad: &[u8]) -> Answer
+        requires { Small geo }
+        ensures same { Same self.old self.new }
+        ensures done { Does
+            (write geo bad.now sector (length xs.now) xs.now
+            (lent (recorder_of self.old) [] (zeros (page_scratch geo) ∷ zeros (seen_scratch geo) ∷ [])))
+            (recorder_of self.new) [] result }
+        ensures countable { Countable result }
+    {
+        let mut page = [0u8; 512];
+        let mut seen = [0u8; 2048];
+        let counts = &mut *self.counts;
+        ftl::write(
+            geo,
+            sector,
+            xs.len(),
+            xs,
+            bad,
+            self.tab,
+            self.used,
+            self.bytes,
+            self.marks,
+            counts,
+            self.fuse,
+            &mut page[..geo.s],
+            &mut seen[..geo.n + geo.p],
+        )
+    }
 
-// Collections from the list, at most m of them counted.
-pub fn collect_list(
-    geo: Geometry,
-    m: usize,
-    bad: &[u8],
-    tab: &mut [u32],
-    used: &mut [u8],
-    bytes: &mut [u8],
-    marks: &mut [u8],
-    counts: &mut [u32],
-    fuse: &mut u64,
-) -> i64
-    requires { Small geo }
-    ensures { Does
-        (list_collection geo bad.now m (lent (recorder tab.old used.old (flash bytes.old marks.old counts.old fuse.old)) []
-        (zeros (page_scratch geo) ∷ zeros (seen_scratch geo) ∷ zeros geo.n ∷ [])))
-        (recorder tab.new used.new (flash bytes.new marks.new counts.new fuse.new)) [] result }
-{
-    let mut page_space = [0u8; 512];
-    let mut seen_space = [0u8; 2048];
-    let mut order_space = [0u32; 1024];
-    let page: &mut [u8] = &mut page_space;
-    let seen: &mut [u8] = &mut seen_space;
-    let order: &mut [u32] = &mut order_space;
-    let s = geo.s;
-    let t = geo.n + geo.p;
-    let n = geo.n;
-    ftl::collect_list(
-        geo,
-        Numbers::Old,
-        m,
-        bad,
-        tab,
-        used,
-        bytes,
-        marks,
-        counts,
-        fuse,
-        &mut page[0..s],
-        &mut seen[0..t],
-        &mut order[0..n],
-    )
-}
+    // Bytes at a sector, into the front of out.
+    pub fn read(&self, geo: Geometry, sector: usize, len: usize, out: &mut [u8]) -> Answer
+        requires { Small geo }
+        ensures done { Does
+            (read geo sector len (lent (recorder_of self.now) out.old (zeros (seen_scratch geo) ∷ [])))
+            (recorder_of self.now) out.new result }
+        ensures countable { Countable result }
+    {
+        let mut seen = [0u8; 2048];
+        ftl::read(
+            geo,
+            sector,
+            len,
+            self.tab,
+            self.used,
+            self.bytes,
+            out,
+            &mut seen[..geo.n + geo.p],
+        )
+    }
 
-// The checkpoint, into the front of the buffer.
-pub fn encode(geo: Geometry, tab: &[u32], used: &[u8], buffer: &mut [u8]) -> i64
-    requires { Small geo }
-    ensures { Does
-        (encoding geo (lent (recorder tab.now used.now no_flash) buffer.old
-        (zeros (seen_scratch geo) ∷ [])))
-        (recorder tab.now used.now no_flash) buffer.new result }
-{
-    let mut seen_space = [0u8; 2048];
-    let seen: &mut [u8] = &mut seen_space;
-    let t = geo.n + geo.p;
-    ftl::encode(geo, tab, used, buffer, &mut seen[0..t])
-}
+    // One collection.
+    pub fn collect(&mut self, geo: Geometry, bad: &[u8]) -> Answer
+        requires { Small geo }
+        ensures same { Same self.old self.new }
+        ensures done { Does
+            (collection geo bad.now
+            (lent (recorder_of self.old) [] (zeros (page_scratch geo) ∷ zeros (seen_scratch geo) ∷ zeros geo.n ∷ [])))
+            (recorder_of self.new) [] result }
+        ensures countable { Countable result }
+    {
+        let mut page = [0u8; 512];
+        let mut seen = [0u8; 2048];
+        let mut order = [0u32; 1024];
+        ftl::collect(
+            geo,
+            bad,
+            self.tab,
+            self.used,
+            self.bytes,
+            self.marks,
+            self.counts,
+            self.fuse,
+            &mut page[..geo.s],
+            &mut seen[..geo.n + geo.p],
+            &mut order[..geo.n],
+        )
+    }
 
-// The tables of a checkpoint.
-pub fn restore(
-    geo: Geometry,
-    queueing: Queueing,
-    file: &[u8],
-    tab: &mut [u32],
-    used: &mut [u8],
-) -> i64
-    requires { Small geo }
-    ensures { Does
-        (restoring geo queueing file.now (lent (recorder tab.old used.old no_flash) []
-        (zeros (pages geo) ∷ [])))
-        (recorder tab.new used.new no_flash) [] result }
-{
-    let mut taken_space = [0u8; 1024];
-    let taken: &mut [u8] = &mut taken_space;
-    let pages = geo.n * geo.p;
-    ftl::restore(geo, queueing, file, tab, used, &mut taken[0..pages])
+    // Collections from the list, at most m of them counted.
+    pub fn collect_list(&mut self, geo: Geometry, m: usize, bad: &[u8]) -> Answer
+        requires { Small geo }
+        ensures same { Same self.old self.new }
+        ensures done { Does
+            (list_collection geo bad.now m
+            (lent (recorder_of self.old) [] (zeros (page_scratch geo) ∷ zeros (seen_scratch geo) ∷ zeros geo.n ∷ [])))
+            (recorder_of self.new) [] result }
+        ensures countable { Countable result }
+    {
+        let mut page = [0u8; 512];
+        let mut seen = [0u8; 2048];
+        let mut order = [0u32; 1024];
+        ftl::collect_list(
+            geo,
+            m,
+            bad,
+            self.tab,
+            self.used,
+            self.bytes,
+            self.marks,
+            self.counts,
+            self.fuse,
+            &mut page[..geo.s],
+            &mut seen[..geo.n + geo.p],
+            &mut order[..geo.n],
+        )
+    }
+
+    // The checkpoint, into the front of the buffer.
+    pub fn encode(&self, geo: Geometry, buffer: &mut [u8]) -> Answer
+        requires { Small geo }
+        ensures done { Does
+            (encoding geo (lent (recorder_of self.now) buffer.old (zeros (seen_scratch geo) ∷ [])))
+            (recorder_of self.now) buffer.new result }
+        ensures countable { Countable result }
+    {
+        let mut seen = [0u8; 2048];
+        ftl::encode(geo, self.tab, self.used, buffer, &mut seen[..geo.n + geo.p])
+    }
+
+    // The tables of a checkpoint.
+    pub fn restore(&mut self, geo: Geometry, queueing: Queueing, file: &[u8]) -> Answer
+        requires { Small geo }
+        ensures same { Same self.old self.new }
+        ensures done { Does
+            (restoring geo queueing file.now (lent (recorder_of self.old) [] (zeros (pages geo) ∷ [])))
+            (recorder_of self.new) [] result }
+        ensures countable { Countable result }
+    {
+        let mut taken = [0u8; 1024];
+        let pages = geo.n * geo.p;
+        ftl::restore(
+            geo,
+            queueing,
+            file,
+            self.tab,
+            self.used,
+            &mut taken[..pages],
+        )
+    }
 }

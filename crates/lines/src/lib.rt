@@ -108,12 +108,13 @@ pub fn put_entry(geo: Geometry, a: PhysicalAddress, out: &mut [u8]) -> usize
 {
     let mut line = Line { out, end: 0 };
     line.put(b' ');
-    if page_map::is_empty(a) {
+    if a.is_empty() {
         line.put(b'-');
         return line.end;
     }
-    line.put_decimal(page_map::segment_of(geo, a));
+    let at = geo.spot_of(a);
+    line.put_decimal(at.segment);
     line.put(b'.');
-    line.put_decimal(page_map::page_of(geo, a));
+    line.put_decimal(at.page);
     line.end
 }

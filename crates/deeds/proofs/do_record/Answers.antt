@@ -1,11 +1,20 @@
--- `do_record` meets its contract: the record is read, done, and its line laid.
-use Rattle.std.proofs.Common.{sym}
-use mathlib.Core.Path.{subst}
+-- `do_record` meets its contract: a record that is found at a place ends behind it, and the bytes of a write stand in the trace.
+use Rattle.std.proofs.Common.{ℕ, ◌<◌, ◌≡◌, List, Some, arith, sym, subst}
+use Rattle.std.proofs.lemmas.Grind.{common_steps}
+use Rattle.model.specs.Lists.{splice}
+use Rattle.records.specs.declared.Record.{Record}
+use Rattle.records.specs.Trace.{Within, next_record}
 use Rattle.records.proofs.Places.{Placed, record_placed}
 use Rattle.deeds.proofs.do_record.Goals as goal
 
--- what is read at a place ends within the trace
-pub perform-r-requires-clause-within : goal.perform-r-requires-clause-within
-perform-r-requires-clause-within c =
-    let a = c.args in
-    (subst (Placed a.xs.now a.at) (sym c.in-Found.ensures) (record_placed a.xs.now a.at)).1
+found : (xs : List ℕ) (at : ℕ) {e : Record} {next : ℕ} → Some (e, next) ≡ next_record xs at → (at < next) × Within xs e
+found xs at q = subst (Placed xs at) (sym q) (record_placed xs at)
+
+pub perform-answer-requires-clause-within : goal.perform-answer-requires-clause-within
+perform-answer-requires-clause-within c = (found c.args.xs.now c.args.at c.in_ok-rec.ensures).1
+
+pub returns-clause-ahead : goal.returns-clause-ahead
+unfolding splice
+returns-clause-ahead c =
+    let line = c.put_line-length.ensures in
+    ((found c.args.xs.now c.args.at c.in_ok-rec.ensures).0, grind (arith, common_steps, line.length, line.laid))

@@ -1,7 +1,8 @@
 -- `put_entry` meets its contract: a space, then `-`, or the segment, a point and the page.
-use Rattle.std.proofs.Common.{◌≡◌, ℕ, ◌^◌, ◌≤◌, ◌<◌, false, ◌∷◌, ◌++◌, eqb, length, sym, ap₂, ◌∙◌, arith, rules}
+use Rattle.std.proofs.Common.{◌≡◌, ℕ, ◌^◌, ◌≤◌, ◌<◌, false, ◌∷◌, ◌++◌, eqb, length, sym, ap, ap₂, ◌∙◌, arith, rules}
 use Rattle.std.proofs.Math.Nat.{div-le_self, mod-le}
 use Rattle.model.specs.declared.Geometry.{Geometry}
+use Rattle.model.specs.declared.Spot.{Spot}
 use Rattle.model.specs.Numbers.{empty, seg_of, page_of}
 use Rattle.lines.specs.Text.{decimal, entry_text}
 use Rattle.lines.proofs.Digits.{ten}
@@ -29,22 +30,22 @@ returns-then-is_empty-clause-laid c =
 
 pub put_decimal-requires : goal.put_decimal-requires
 put_decimal-requires c =
-    omega (arith, seg_short c.args.geo c.args.a.0 c.segment_of.result (omega arith) c.segment_of.ensures)
+    omega (arith, seg_short c.args.geo c.args.a.0 _ (omega arith) (ap (λ (s : Spot). s.segment) c.spot_of-at.ensures))
 
 pub put-requires-2 : goal.put-requires-2
 put-requires-2 c =
-    omega (arith, seg_short c.args.geo c.args.a.0 c.segment_of.result (omega arith) c.segment_of.ensures)
+    omega (arith, seg_short c.args.geo c.args.a.0 _ (omega arith) (ap (λ (s : Spot). s.segment) c.spot_of-at.ensures))
 
 pub put_decimal-requires-2 : goal.put_decimal-requires-2
 put_decimal-requires-2 c =
-    let seg = seg_short c.args.geo c.args.a.0 c.segment_of.result (omega arith) c.segment_of.ensures in
-    let page = page_short c.args.geo c.args.a.0 c.page_of.result (omega arith) c.page_of.ensures in
+    let seg = seg_short c.args.geo c.args.a.0 _ (omega arith) (ap (λ (s : Spot). s.segment) c.spot_of-at.ensures) in
+    let page = page_short c.args.geo c.args.a.0 _ (omega arith) (ap (λ (s : Spot). s.page) c.spot_of-at.ensures) in
     omega (arith, seg, page)
 
 pub returns-clause-laid : goal.returns-clause-laid
 returns-clause-laid c =
-    let text = named c.args.geo c.args.a.0 (sym c.if-is_empty.ensures) c.segment_of.ensures c.page_of.ensures in
-    let short = seg_short c.args.geo c.args.a.0 c.segment_of.result (omega arith) c.segment_of.ensures in
+    let text = named c.args.geo c.args.a.0 (sym c.if-is_empty.ensures) (ap (λ (s : Spot). s.segment) c.spot_of-at.ensures) (ap (λ (s : Spot). s.page) c.spot_of-at.ensures) in
+    let short = seg_short c.args.geo c.args.a.0 _ (omega arith) (ap (λ (s : Spot). s.segment) c.spot_of-at.ensures) in
     let page = laid_next c.put-2.ensures.laid c.put_decimal-2.ensures.laid (omega (arith, short)) in
     let seg = laid_next c.put_decimal.ensures.laid page (omega arith) in
     let entry = laid_as text (laid_next c.put.ensures.laid seg (omega arith)) in

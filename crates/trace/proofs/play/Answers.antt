@@ -1,22 +1,20 @@
 -- `play` is safe: the memory at hand is enough for the device of a trace.
 use Rattle.std.proofs.Common.{arith}
-use Rattle.trace.proofs.Laws.{segments, words}
+use Rattle.std.proofs.lemmas.Grind.{common_steps}
+use Rattle.trace.proofs.Laws.{good, segments, words}
 use Rattle.trace.proofs.play.Goals as goal
 
-pub overflow_mul-words : goal.overflow_mul-words
-overflow_mul-words g c = omega (arith, segments c.args.geo c.requires.geo_value)
+pub pages-pages-requires : goal.pages-pages-requires
+pages-pages-requires g c = good c.args.geo c.requires
 
-pub overflow_add-words : goal.overflow_add-words
-overflow_add-words g c = omega (arith, words c.args.geo c.requires.geo_value)
+pub words-requires : goal.words-requires
+words-requires g c = good c.args.geo c.requires
 
-pub overflow_add-words-2 : goal.overflow_add-words-2
-overflow_add-words-2 g c = omega (arith, words c.args.geo c.requires.geo_value)
+pub slice_bounds-unit-end : goal.slice_bounds-unit-end
+slice_bounds-unit-end g c = grind (arith, common_steps, words c.args.geo c.requires)
 
-pub overflow_add-words-3 : goal.overflow_add-words-3
-overflow_add-words-3 g c = omega (arith, words c.args.geo c.requires.geo_value)
+pub slice_bounds-unit-end-5 : goal.slice_bounds-unit-end-5
+slice_bounds-unit-end-5 g c = grind (arith, common_steps, segments c.args.geo c.requires)
 
-pub slice_bounds-follow-end : goal.slice_bounds-follow-end
-slice_bounds-follow-end g c = omega (arith, segments c.args.geo c.requires.geo_value, c.requires.bad_len)
-
-pub slice_bounds-follow-end-2 : goal.slice_bounds-follow-end-2
-slice_bounds-follow-end-2 g c = words c.args.geo c.requires.geo_value
+pub follow-requires-clause-tab_len : goal.follow-requires-clause-tab_len
+follow-requires-clause-tab_len g c = grind (arith, common_steps, words c.args.geo c.requires)
