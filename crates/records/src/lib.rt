@@ -37,14 +37,7 @@ fn front(xs: &[u8]) -> Option<(Geometry, usize, usize)>
     let (e, at) = number(xs, at)?;
     let (limit, at) = number(xs, at)?;
     let (count, at) = number(xs, at)?;
-    let geo = Geometry {
-        n,
-        p,
-        s,
-        w,
-        e,
-        limit,
-    };
+    let geo = Geometry::of(n, p, s, w, e, limit);
     Some((geo, count, at))
 }
 

@@ -425,14 +425,7 @@ fn play(rt: &impl Print, case: u64, geo: Geometry, xs: &[u8], first: usize) -> O
 // A case: its geometry, and then its steps.
 fn play_case(rt: &impl Print, case: u64, xs: &[u8], at: usize) -> Option<Played> {
     let ([n, p, s, w, e, limit], first) = row::<6>(xs, at)?;
-    let geo = Geometry {
-        n,
-        p,
-        s,
-        w,
-        e,
-        limit,
-    };
+    let geo = Geometry::of(n, p, s, w, e, limit);
     play(rt, case, geo, xs, first)
 }
 
@@ -481,24 +474,9 @@ fn play_all(rt: &impl Print, xs: &[u8]) -> Tally {
     tally
 }
 
-// Reads until the buffer is full, the input ends or a read fails, and answers how many bytes stand at its front.
-fn read_full<R: Read>(from: &mut R, buffer: &mut [u8]) -> usize
-    ensures { result ≤ length buffer.new }
-{
-    let mut done = 0;
-    while done < buffer.len() {
-        let n = from.read(&mut buffer[done..]).unwrap_or(0);
-        if n == 0 {
-            break;
-        }
-        done += n;
-    }
-    done
-}
-
 fn main(rt: HostRuntime) {
     let mut input = [0u8; 262145];
-    let length = read_full(&mut rt.stdin(), &mut input);
+    let length = input::read_full(&mut rt.stdin(), &mut input);
     if 262144 < length {
         let _ = println!(rt; "too long");
         return;
