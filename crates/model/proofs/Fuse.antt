@@ -14,7 +14,7 @@ use Rattle.model.specs.Numbers.{Geometry, Answer, Ok, Err, Cause, NoRoom, Device
 use Rattle.model.specs.Tables.{at}
 use Rattle.model.specs.Device.{flash, Op, Program, EraseSeg, raised, State, state, Out, out, burn}
 use Rattle.model.specs.Device.{blanked, clear_up, may_program, may_erase, refuse, finish, behind, go_on, and_then, format_from}
-use Rattle.model.specs.PageMap.{Found, Some, spot, None, find}
+use Rattle.model.specs.PageMap.{Found, Some, None, find}
 use Rattle.model.specs.PageWrite.{whole, old_page, stored, spent, write_at, write_page}
 use Rattle.model.specs.PageGc.{of_copy, copy_answer, as_copy_out, victim, taken, cleared, finish_of, last_of}
 use Rattle.model.specs.PageGc.{copy_one, drain, collect_of, collect, collect_more, collect_list, collect_threshold}

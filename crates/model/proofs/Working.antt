@@ -4,7 +4,7 @@
 -- and so on): `search` takes the others from the tables before.
 use Prim.Native.Nat.{ℕ, ◌+◌, ◌*◌, ◌-◌, ◌≤◌, ◌<◌}
 use mathlib.Core.Path.{◌≡◌}
-use lib.ListN.{length, drop}
+use lib.ListN.{drop}
 use Rattle.model.specs.Lists.{slot, occ, zeros}
 use Rattle.model.specs.Numbers.{Geometry, seg_of, page_of}
 use Rattle.model.specs.Tables.{Tables, at, word_of, queue_of, list_of}

@@ -56,8 +56,8 @@ module _ (G : Geometry) (w u : List ℕ) where
       (view_cut G w u
       ∙ ap
       (λ xs.
-        tables (take G.e w) (take G.n behind_map) (take G.n behind_free) u xs (take G.n behind_valid) (take G.n behind_lens) (take G.n behind_queue)
-        (at (take 1 behind_flags) 0) (at (take 1 behind_alloc) 0))
+      tables (take G.e w) (take G.n behind_map) (take G.n behind_free) u xs (take G.n behind_valid) (take G.n behind_lens) (take G.n behind_queue)
+      (at (take 1 behind_flags) 0) (at (take 1 behind_alloc) 0))
       (take_all (pages G) (drop 1 behind_alloc) (omega arith)))
 
 -- the parts, each cut off from what is behind the one before

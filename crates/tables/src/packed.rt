@@ -60,12 +60,7 @@ fn on_parts<D: Deed>(
 }
 
 // The deed on the tables that lie in the words and the use marks: what it leaves of them lies there again.
-pub fn on_packed<D: Deed>(
-    geo: Geometry,
-    tab: &mut [u32],
-    used: &mut [u8],
-    deed: &mut D,
-) -> Answer
+pub fn on_packed<D: Deed>(geo: Geometry, tab: &mut [u32], used: &mut [u8], deed: &mut D) -> Answer
     requires good { Good geo }
     requires tab_len { (length tab.old ≡ tab_words geo) × (length used.old ≡ pages geo) }
     requires may { D.may geo (view geo tab.old used.old) deed.old }

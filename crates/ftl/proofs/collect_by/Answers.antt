@@ -66,7 +66,7 @@ returns-clause-answered c =
     done _ _ x _ _ _ _ P _ _ _ _ _ _ c.on_packed.auto.tab (search rules) c.collection_tests.ensures.seen_unchanged (search rules) _
     (subst
     (λ (f : Flash). Done (passes_of a.geo a.bad.now a.passes (state (view a.geo a.tab.now a.used.now) x.flash)) c.on_packed.result
-      (state (view a.geo c.on_packed.new.tab c.on_packed.new.used) f))
+    (state (view a.geo c.on_packed.new.tab c.on_packed.new.used) f))
     (search rules) E.done)
 
 pub returns-clause-countable : goal.returns-clause-countable

@@ -4,7 +4,7 @@ use Rattle.model.specs.Device.{flash}
 use Rattle.model.specs.Entry.{recorder}
 use Rattle.model.proofs.Guard.{good_test}
 use Rattle.guard.proofs.Rows.{told}
-use Rattle.ftl.proofs.Passing.{Passed, passed}
+use Rattle.ftl.proofs.Passing.{passed}
 use Rattle.ftl.proofs.Collecting.{wrong_geometry, wrong_size, wrong_order, told_sound}
 use Rattle.ftl.proofs.collection_tests.Goals as goal
 

@@ -1,6 +1,5 @@
 -- `show` meets its contract: a part of a page.
 use Rattle.std.proofs.Common.{◌≡◌, ℕ, ◌+◌, ◌*◌, List, ◌++◌, ap, subst, rules, length, ◌∙◌, take, drop, arith}
-use Rattle.model.specs.declared.Geometry.{Geometry}
 use Rattle.model.specs.Lists.{slot, splice}
 use Rattle.model.specs.Numbers.{flat}
 use Rattle.model.specs.declared.Spot.{Spot}

@@ -103,7 +103,7 @@ returns-clause-answered c =
     _ _ _ _ c.on_packed.auto.tab (search rules) _
     (subst
     (λ (f : Flash). Done (inner a.geo a.bad.now x a.page.now a.seen.now a.sector a.len a.xs.now) c.on_packed.result
-      (state (view a.geo c.on_packed.new.tab c.on_packed.new.used) f))
+    (state (view a.geo c.on_packed.new.tab c.on_packed.new.used) f))
     (search rules) (E.done a.counts.now))
 
 pub returns-clause-countable : goal.returns-clause-countable

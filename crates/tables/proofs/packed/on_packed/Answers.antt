@@ -33,16 +33,16 @@ returns g c =
     let n = c.on_parts.new in
     let left = tables n.map n.free n.valid n.used n.lists n.lens n.queue n.flags n.alloc n.queued in
     let sizes : Sized c.args.geo left =
-      record {
-        map = search rules;
-        free = search rules;
-        valid = search rules;
-        used = search rules;
-        lists = search rules;
-        lens = search rules;
-        queue = search rules;
-        flags = search rules;
-      } in
+    record {
+      map = search rules;
+      free = search rules;
+      valid = search rules;
+      used = search rules;
+      lists = search rules;
+      lens = search rules;
+      queue = search rules;
+      flags = search rules;
+    } in
     subst (λ (t : Tables). g.D.Deed.does c.args.geo (view c.args.geo c.args.tab.now c.args.used.now) c.args.deed.now c.on_parts.result t n.deed)
     (sym (laid_together c.args.geo left _ _ sizes (search rules) (search rules)))
     (subst (λ (t : Tables). g.D.Deed.does c.args.geo t c.args.deed.now c.on_parts.result left n.deed) whole c.on_parts.ensures)
