@@ -1,5 +1,5 @@
 -- Document 01, "Trace program": what a record does, and the line that it gives.
-use Rattle.std.specs.Prelude.{ℕ, ◌≡◌, Option, Some, None, List, [], ◌∷◌, length, take, drop}
+use Rattle.std.specs.Prelude.{ℕ, ◌≡◌, ◌<◌, ◌≤◌, Option, Some, None, List, [], ◌∷◌, length, take, drop}
 use Rattle.model.specs.declared.Geometry.{Geometry}
 use Rattle.model.specs.Lists.{zeros, splice}
 use Rattle.model.specs.Numbers.{Answer, Ok, Err, number}
@@ -98,6 +98,11 @@ pub record Performed (G : Geometry) (bad xs : List ℕ) (k : Kept) (e : Record) 
 
 abbrev pub told : (next length : ℕ) → Told
 told n l = record { next = n; length = l }
+
+-- what a turn tells lies behind the place at which it began, and its line within the buffer l
+abbrev pub Ahead : ℕ → (l : List ℕ) → Option Told → Type 0
+Ahead at l None = Unit {0}
+Ahead at l (Some t) = (at < t.next) × (t.length ≤ length l)
 
 -- one turn of the trace: the record found is done and its line laid in front of what stood in the buffer l; a malformed one changes nothing
 abbrev pub Turned : (G : Geometry) (bad xs : List ℕ) → Kept → Option (Record × ℕ) → (l : List ℕ) → Kept → (l' : List ℕ) → Option Told → Type 0

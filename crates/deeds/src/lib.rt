@@ -1,12 +1,12 @@
 // What the records of a trace do: each is one call of a public entry, and gives one line.
 #![tactic(auto)]
 
-ghost use Rattle.std.specs.Prelude.{◌≡◌, ◌+◌, ◌*◌, ◌<◌, ◌≤◌, IfSome, length};
+ghost use Rattle.std.specs.Prelude.{◌≡◌, ◌+◌, ◌*◌, ◌≤◌, length};
 ghost use Rattle.guard.specs.Countable.{Countable};
 ghost use Rattle.model.specs.Lists.{splice};
 ghost use Rattle.records.specs.Trace.{next_record};
 ghost use Rattle.lending.specs.Does.{Small};
-ghost use Rattle.deeds.specs.Deeds.{line_of, Turned};
+ghost use Rattle.deeds.specs.Deeds.{line_of, Ahead, Turned};
 ghost use Rattle.deeds.specs.Kept.{kept_of, Same};
 
 use lending::Unit;
@@ -100,7 +100,7 @@ pub fn do_record(
     requires in_bounds { 24 ≤ length line.old }
     requires out_in_bounds { 2 * length kept.old.out.now + 3 ≤ length line.old }
     ensures same { Same kept.old kept.new }
-    ensures ahead { IfSome result (λ t. (at < t.next) × (t.length ≤ length line.new)) }
+    ensures ahead { Ahead at line.new result }
     ensures turned { Turned geo bad.now xs.now (kept_of kept.old) (next_record xs.now at) line.old (kept_of kept.new) line.new result }
 {
     let (rec, next) = records::next_record(xs, at)?;

@@ -4,14 +4,18 @@ use Rattle.std.proofs.lemmas.List.{take-replicate}
 use Rattle.model.specs.Lists.{zeros}
 use Rattle.model.specs.Numbers.{Answer}
 use Rattle.model.specs.Device.{Flash}
-use Rattle.model.specs.Entry.{Recorder, recorder, Lent, Outcome, Answered}
+use Rattle.model.specs.Entry.{Recorder, recorder, Lent, lent, Outcome, Answered}
 use Rattle.model.proofs.Frame.{over, with_flash}
 use Rattle.lending.specs.Does.{Does}
 
 -- what is left beside the scratch, and the answer; what the scratch s is equal to may stand for it
-pub does : (f : List (List ℕ) → Outcome) {s t : List (List ℕ)} {x : Lent} {a : Answer} → Answered (f s) x a → s ≡ t → Does (f t) x.unit x.buffer a
-does f {x = x} {a = a} A e =
-    subst (λ s. Does (f s) x.unit x.buffer a) e
+pub does
+    : (f : List (List ℕ) → Outcome) {s t k : List (List ℕ)} {u : Recorder} {b : List ℕ} {a : Answer}
+    → Answered (f s) (lent u b k) a
+    → s ≡ t
+    → Does (f t) u b a
+does f {u = u} {b = b} {a = a} A e =
+    subst (λ s. Does (f s) u b a) e
     (record {
       unit_is = ap (λ (x : Lent). x.unit) A.left_is;
       buffer_is = ap (λ (x : Lent). x.buffer) A.left_is;

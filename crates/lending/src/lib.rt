@@ -36,6 +36,7 @@ impl Unit<'_> {
     {
         let mut page = [0u8; 512];
         let mut seen = [0u8; 2048];
+        // a write only looks at the counts
         let counts = &mut *self.counts;
         ftl::write(
             geo,
@@ -154,6 +155,7 @@ impl Unit<'_> {
         ensures countable { Countable result }
     {
         let mut taken = [0u8; 1024];
+        // not `geo.pages()`, which asks for a good geometry: the entry itself tests that
         let pages = geo.n * geo.p;
         ftl::restore(
             geo,
