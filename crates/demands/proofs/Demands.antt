@@ -1,6 +1,7 @@
--- The demands, of the functions that run. Each premise `PromiseIn N …` is the `ensures` of `write` or a collection in crates/ftl/src/lib.rt, letter for
--- letter; for the other calls N is `Old`, and it follows from their `ensures` by `format_runs` to `restore_runs`. None of these functions has a
--- `requires`. The second demand is the `ensures` themselves, under the old choices, each function equal to its definition, and the runs beside the Rust.
+-- The demands, of the functions that run. Each premise `PromiseIn N …` follows from the `ensures` of `write` or a collection in crates/ftl/src/lib.rt by
+-- `told_in` (crates/model/proofs/Outcome.antt), and is that of its C name in crates/ffi/src/lib.rt; for the other calls N is `Old`, and it follows by
+-- `format_runs` to `restore_runs`. None of these functions has a `requires`. The second demand is the `ensures` themselves, under the old choices, each
+-- function equal to its definition, and the runs beside the Rust.
 use Prim.Native.Nat.{ℕ, suc, ◌≤◌}
 use mathlib.Core.Path.{◌≡◌, refl, sym, ap, ◌∙◌, subst}
 use mathlib.Core.Logic.{◌⊎◌, inl, inr, ◌≢◌}

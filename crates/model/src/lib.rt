@@ -138,7 +138,7 @@ pub enum Cause {
     CopyDevice,
     // A collection: the erase was refused.
     Erase,
-    // Restoring: the first of the nine tests that a checkpoint fails.
+    // Restoring: the first of the nine tests that a checkpoint fails. 01 tells them by number, and so do `reason_of` and the theorems on it.
     Reason(usize),
 }
 

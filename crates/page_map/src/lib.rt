@@ -55,7 +55,7 @@ pub fn last_listed(t: &TablesMut<'_>, v: usize) -> LogicalPage
 }
 
 // The first clear page of the first segment, from the allocation segment on, that is not bad and has one. The first-page rule: a segment's used pages are
-// its first ones, so its first clear page is page p - free, and the marks are not looked at.
+// its first ones, so its first clear page is page p - free, and the marks are not looked at. A label yields the page found, as document 01 asks of this walk.
 pub fn find_page(t: &TablesMut<'_>, bad: &[u8]) -> Option<Spot>
     requires sound { Sound t.now.geo (tables_of t.now) }
     requires bad_len { length bad.now ≡ t.now.geo.n }
@@ -63,17 +63,19 @@ pub fn find_page(t: &TablesMut<'_>, bad: &[u8]) -> Option<Spot>
 {
     let n = t.geo.n;
     let alloc = *t.alloc as usize;
-    for i in 0..n {
-        let segment = (alloc + i) % n;
-        let free = t.free[segment] as usize;
-        if bad[segment] == 0 && free != 0 {
-            return Some(Spot {
-                segment,
-                page: t.geo.p - free,
-            });
+    'walk: {
+        for i in 0..n {
+            let segment = (alloc + i) % n;
+            let free = t.free[segment] as usize;
+            if bad[segment] == 0 && free != 0 {
+                break 'walk Some(Spot {
+                    segment,
+                    page: t.geo.p - free,
+                });
+            }
         }
+        None
     }
-    None
 }
 
 // The page is used from now on, and its segment is the allocation segment.

@@ -21,8 +21,8 @@ loop-i-preserved c =
       | else-bad-segment-eq0-via-else-bad-segment-eq0 w ↦ walk_bad t.geo bad (tables_of t) i c.loop-i-test.true w.if-bad-segment-eq0.false
     ]
 
-pub returns : goal.returns
-returns c =
+pub returns-after-loop-i : goal.returns-after-loop-i
+returns-after-loop-i c =
     let t = c.args.t.now in
     sym (c.loop-i.invariant ∙ walk_end t.geo c.args.bad.now (tables_of t) c.loop-i.i (omega arith))
 
