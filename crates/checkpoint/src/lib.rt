@@ -24,7 +24,8 @@ const CRC_OFFSET: usize = 40;
 
 const HEADER_BYTES: usize = 44;
 
-// The bytes of x, the lowest first, from `at` on.
+// The bytes of x, the lowest first, from `at` on: a word's, and a long one's. The definitions name both, `word` and `long`, and speak of places: one
+// function over the width would be no plainer.
 pub fn put_word(d: &mut [u8], at: usize, x: u32)
     requires { at + 4 ≤ length d.old }
     ensures { d.new ≡ splice at (word x) d.old }

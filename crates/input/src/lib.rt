@@ -12,6 +12,7 @@ pub fn read_full<R: Read>(from: &mut R, buffer: &mut [u8]) -> usize
     ensures bytes { Consumes (R.remaining from.old) (R.remaining from.new) (take result buffer.new) }
 {
     let mut end = 0;
+    // no `for`: each read says where the next begins
     while end < buffer.len() {
         match from.read(&mut buffer[end..]) {
             Ok(0) | Err(_) => break,

@@ -1,4 +1,5 @@
-// The numbers of a trace, read from bytes that may be anything.
+// The numbers of a trace, read from bytes that may be anything. What is read tells the place behind it, as `number` of the definitions does, of whose
+// places the theorems speak.
 #![tactic(auto)]
 
 ghost use Rattle.std.specs.Prelude.{◌≡◌, ◌<◌, ◌≤◌};

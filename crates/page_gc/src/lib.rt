@@ -1,4 +1,5 @@
-// Step 5 of document 01 and the threshold of step 6: a victim is taken, drained, erased and reset.
+// Step 5 of document 01 and the threshold of step 6: a victim is taken, drained, erased and reset. Flash, counts, bad list and scratch are lent one by
+// one: in one struct was tried, and of a struct in a struct the proof forgets what its references end as.
 #![tactic(auto)]
 
 ghost use Rattle.std.specs.Prelude.{◌≡◌, List, ℕ, ◌<◌, length};

@@ -1,4 +1,4 @@
-// The header and the records of a trace, read from bytes that may be anything.
+// The header and the records of a trace, read from bytes that may be anything, each from a place on, as the definitions read them.
 #![tactic(auto)]
 
 ghost use Rattle.std.specs.Prelude.{◌≡◌, true, set};

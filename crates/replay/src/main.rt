@@ -61,7 +61,8 @@ struct Call {
     expected: Outcome,
 }
 
-// A step of a case. A part is named by its place in `ROOMS`.
+// A step of a case. A part is named by its number, its place in `ROOMS`: whether there is one is tested when the step is done, and a step behind a
+// difference is passed over.
 #[derive(Clone, Copy)]
 enum Step {
     End,

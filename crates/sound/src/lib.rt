@@ -30,7 +30,7 @@ pub fn blank(s: &[u8]) -> bool
     every(s, 0)
 }
 
-// Whether a scratch of words is all zero.
+// Whether a scratch of words is all zero. A name of its own: one for both would ask a trait of bytes and words, for a line.
 pub fn blank_words(s: &[u32]) -> bool
     ensures { result ≡ blank s.now }
 {

@@ -22,7 +22,8 @@ pub trait Deed {
         ensures does { does t.old.geo (tables_of t.old) self.old result (tables_of t.new) self.new };
 }
 
-// The deed on the tables whose parts are these.
+// The deed on the tables whose parts are these. They are lent one by one, and put together here: of parts that are cut off and put together in one
+// function the proof forgets what they end as.
 fn on_parts<D: Deed>(
     geo: Geometry,
     map: &mut [u32],

@@ -48,6 +48,7 @@ fn follow<P: Print>(
     let _ = ftl::format(geo, unit.bytes, unit.marks, unit.counts, unit.fuse);
     let _ = ftl::open(geo, unit.tab, unit.used);
     let mut at = first;
+    // no `for`: each record says where the next begins
     while at < xs.len() {
         let Some(told) = deeds::do_record(geo, xs, at, bad, kept, line) else {
             return to.write_all(b"t !1\n");
