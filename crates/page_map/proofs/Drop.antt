@@ -1,7 +1,10 @@
 -- Unlinking, invalidating and forgetting, by the words that the code reads. Assumes nothing.
 use Prim.Native.Nat.{ℕ, ◌*◌, ◌-◌, ◌<◌}
 use native.Mathlib.Omega.{arith}
-use mathlib.Core.Path.{◌≡◌, sym, ap, ◌∙◌}
+use mathlib.Core.Path.{◌≡◌, refl, sym, ap, ◌∙◌}
+use mathlib.Core.Bool.{Bool, true, false, cond}
+use mathlib.Core.List.{List}
+use lib.Dec.{eqb}
 use mathlib.Core.Logic.{◌≢◌}
 use lib.ListN.{drop}
 use lib.Seq.{take-take}
@@ -9,9 +12,9 @@ use borrow.Author.Tests.{eq-eqb, ne_eqb}
 use Rattle.model.specs.declared.Geometry.{Geometry}
 use Rattle.model.specs.Lists.{occ, on_slot, without}
 use Rattle.model.specs.Numbers.{empty, seg_of}
-use Rattle.model.specs.Tables.{Tables, at, word_of, region, list_of}
+use Rattle.model.specs.Tables.{Tables, at, word_of, region, list_of, set_used}
 use Rattle.model.specs.Sound.{Sound, Mapped}
-use Rattle.model.specs.PageMap.{unlink, enqueue, invalidate, forget}
+use Rattle.model.specs.PageMap.{unlink, enqueue, due, invalidate, forget}
 use Rattle.model.proofs.Working.{Counted}
 use Rattle.model.proofs.Slots.{any_default}
 use Rattle.model.proofs.Reading.{names_one, len≤, in_lists}
@@ -21,14 +24,18 @@ use Rattle.model.proofs.Unlink.{unlink_sound}
 use Rattle.model.proofs.Enqueue.{has_room}
 use Rattle.model.proofs.Forget.{forgot}
 use Rattle.tables.specs.declared.TablesMut.{TablesMut}
-use Rattle.tables.specs.Parts.{tables_of}
-use Rattle.tables.proofs.Parts.{sized}
+use Rattle.tables.specs.Parts.{tables_of, SoundMarksAside}
+use Rattle.tables.proofs.Parts.{sized, sized_with}
 use Rattle.page_map.specs.Parts.{Room}
 use Rattle.page_map.proofs.Parts.{without_alone, part_alone}
 
 -- sound tables in the working form
 pub counted : (t : TablesMut) → Sound t.geo (tables_of t) → Counted t.geo (tables_of t)
 counted t S = sound_counted t.geo (tables_of t) (sized t) S
+
+-- and with other marks in the place of those that are lent
+pub counted_aside : (t : TablesMut) (S : SoundMarksAside t) → Counted t.geo (set_used S.marks (tables_of t))
+counted_aside t S = sound_counted t.geo (set_used S.marks (tables_of t)) (sized_with t S.marks S.size) S.sound
 
 -- l is mapped into segment g
 module _ {G : Geometry} {t : Tables} (C : Counted G t) (l g : ℕ) (m : Mapped t l) (e : seg_of G (word_of t l) ≡ g) where
@@ -57,10 +64,10 @@ module _ (G : Geometry) (t : Tables) (l g : ℕ) (t' : Tables) (is : t' ≡ unli
   flag_same = ap (λ (x : Tables). at x.flags g) is
 
   -- a segment that is due finds room in the queue: `has_room`
-  pub due_room : Counted G t → Mapped t l → seg_of G (word_of t l) ≡ g → at t'.free g ≡ 0 → at t'.flags g ≡ 0 → Room G t'
-  due_room C m e f h =
-      let U = unlink_sound G t C l g m e in
-      let room = has_room G (unlink G l g t) U g (seg C l g m e) (sym free_same ∙ f) (sym flag_same ∙ h) in
+  pub due_room : {u : List ℕ} → Counted G (set_used u t) → Mapped t l → seg_of G (word_of t l) ≡ g → at t'.free g ≡ 0 → at t'.flags g ≡ 0 → Room G t'
+  due_room {u} C m e f h =
+      let U = unlink_sound G (set_used u t) C l g m e in
+      let room = has_room G (unlink G l g (set_used u t)) U g (seg C l g m e) (sym free_same ∙ f) (sym flag_same ∙ h) in
       rw is record { some = room; blank = U.behind }
 
   pub invalidate-due : at t'.free g ≡ 0 → at t'.flags g ≡ 0 → enqueue G g t' ≡ invalidate G l g t
@@ -89,6 +96,25 @@ module _ (G : Geometry) (t : Tables) (l a : ℕ) (is : a ≡ word_of t l) where
   unfolding forget
   forget_some m g e = rw (ne_eqb _ _ (λ q. m (is ∙ q))) (ap (λ x. invalidate G l x t) (e ∙ ap (seg_of G) is))
 
+-- forgetting reads no marks: the lists' lengths come out the same
+lens_same : (G : Geometry) (t : Tables) (l : ℕ) (u : List ℕ) → (forget G l (set_used u t)).lens ≡ (forget G l t).lens
+unfolding forget invalidate
+lens_same G t l u = go (eqb (word_of t l) empty) (due G (seg_of G (word_of t l)) t)
+  where
+    g : ℕ
+    g = seg_of G (word_of t l)
+
+    left : Tables → Bool → Tables
+    left x d = cond d (enqueue G g (unlink G l g x)) (unlink G l g x)
+
+    go : (b d : Bool) → (cond b (set_used u t) (left (set_used u t) d)).lens ≡ (cond b t (left t d)).lens
+    go true _ = refl
+    go false true = refl
+    go false false = refl
+
 -- after it a list that was shorter than the valid count has room
-pub list_room : {G : Geometry} {t : Tables} → Counted G t → (l g : ℕ) → at t.lens g < at t.valid g → at (forget G l t).lens g < G.p
-list_room {G} {t} C l g h = let F = forgot G t C l in omega (arith, F.gap g h, F.sound.valid≤ g)
+pub list_room : (t : TablesMut) → SoundMarksAside t → (l g : ℕ) → at t.lens.now g < at t.valid.now g
+    → at (forget t.geo l (tables_of t)).lens g < t.geo.p
+list_room t S l g h =
+    let F = forgot t.geo (set_used S.marks (tables_of t)) (counted_aside t S) l in
+    omega (arith, F.gap g h, F.sound.valid≤ g, ap (λ x. at x g) (lens_same t.geo (tables_of t) l S.marks))

@@ -8,7 +8,7 @@ ghost use Rattle.model.specs.Tables.{at, word_of};
 ghost use Rattle.model.specs.Sound.{Sound, Mapped};
 ghost use Rattle.model.specs.PageMap.{find, spend, unlink, enqueue, invalidate, forget, place};
 ghost use Rattle.model.specs.PageGc.{last_of};
-ghost use Rattle.tables.specs.Parts.{tables_of, Same};
+ghost use Rattle.tables.specs.Parts.{tables_of, Same, SoundMarksAside};
 ghost use Rattle.page_map.specs.Parts.{close_up, Room};
 
 use model::{LogicalPage, PhysicalAddress, Spot};
@@ -46,7 +46,7 @@ fn push_front(queue: &mut [u32], x: u32)
 
 // The last logical page of segment v's list.
 pub fn last_listed(t: &TablesMut<'_>, v: usize) -> LogicalPage
-    requires sound { Sound t.now.geo (tables_of t.now) }
+    requires sound { SoundMarksAside t.now }
     requires listed { (v < t.now.geo.n) × (0 < at t.now.lens.now v) }
     ensures { result.0 ≡ last_of t.now.geo v (tables_of t.now) }
 {
@@ -94,7 +94,7 @@ pub fn spend(t: &mut TablesMut<'_>, spot: Spot)
 
 // Logical page l leaves the list of segment g, where it is mapped, and the map. Behind the list nothing changes.
 fn unlink(t: &mut TablesMut<'_>, l: LogicalPage, g: usize)
-    requires sound { Sound t.old.geo (tables_of t.old) }
+    requires sound { SoundMarksAside t.old }
     requires mapped { Mapped (tables_of t.old) l.0 × (seg_of t.old.geo (word_of (tables_of t.old) l.0) ≡ g) }
     ensures same { Same t.old t.new }
     ensures unlinked { tables_of t.new ≡ unlink t.old.geo l.0 g (tables_of t.old) }
@@ -121,7 +121,7 @@ fn enqueue(t: &mut TablesMut<'_>, g: usize)
 
 // Logical page l is dropped from segment g, where it is mapped; a full segment that is not flagged goes to the queue.
 pub fn invalidate(t: &mut TablesMut<'_>, l: LogicalPage, g: usize)
-    requires sound { Sound t.old.geo (tables_of t.old) }
+    requires sound { SoundMarksAside t.old }
     requires mapped { Mapped (tables_of t.old) l.0 × (seg_of t.old.geo (word_of (tables_of t.old) l.0) ≡ g) }
     ensures same { Same t.old t.new }
     ensures invalidated { tables_of t.new ≡ invalidate t.old.geo l.0 g (tables_of t.old) }
@@ -134,7 +134,7 @@ pub fn invalidate(t: &mut TablesMut<'_>, l: LogicalPage, g: usize)
 
 // Where l is mapped, its page is invalidated.
 pub fn forget(t: &mut TablesMut<'_>, l: LogicalPage)
-    requires sound { Sound t.old.geo (tables_of t.old) }
+    requires sound { SoundMarksAside t.old }
     requires l_lt_e { l.0 < t.old.geo.e }
     ensures same { Same t.old t.new }
     ensures forgotten { tables_of t.new ≡ forget t.old.geo l.0 (tables_of t.old) }
@@ -162,7 +162,7 @@ pub fn place(t: &mut TablesMut<'_>, l: LogicalPage, spot: Spot)
 
 // The old page of l is dropped where it is mapped, and l goes to this page.
 pub fn remap(t: &mut TablesMut<'_>, l: LogicalPage, spot: Spot)
-    requires sound { Sound t.old.geo (tables_of t.old) }
+    requires sound { SoundMarksAside t.old }
     requires in_bounds { (l.0 < t.old.geo.e) × (spot.segment < t.old.geo.n) × (spot.page < t.old.geo.p) }
     requires room { at t.old.lens.now spot.segment < at t.old.valid.now spot.segment }
     ensures same { Same t.old t.new }

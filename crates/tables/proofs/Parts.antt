@@ -3,25 +3,33 @@ use Rattle.std.proofs.Common.{arith, refl, ℕ, List, [], ◌∷◌, ◌++◌, �
 use lib.ListN.{length-drop}
 use lib.Seq.{take_all}
 use Rattle.model.specs.declared.Geometry.{Geometry}
-use Rattle.model.specs.Tables.{Tables, tables, at, view, packed, pages, tab_words, Sized}
+use Rattle.model.specs.Tables.{Tables, tables, at, view, packed, pages, tab_words, set_used, Sized}
+use Rattle.model.specs.Sound.{Sound}
 use Rattle.model.proofs.Regions.{cut}
 use Rattle.model.proofs.View.{view-packed, view_cut, made, sizes}
 use Rattle.tables.specs.declared.TablesMut.{TablesMut}
-use Rattle.tables.specs.Parts.{tables_of}
+use Rattle.tables.specs.Parts.{tables_of, SoundMarksAside}
 
--- each part has its size
-pub sized : (t : TablesMut) → Sized t.geo (tables_of t)
-sized t =
+-- each part has its size, with these use marks and with the ones that are lent
+pub sized_with : (t : TablesMut) (marks : List ℕ) → length marks ≡ pages t.geo → Sized t.geo (set_used marks (tables_of t))
+sized_with t marks h =
     record {
       map = t.map_len;
       free = t.free_len;
       valid = t.valid_len;
-      used = t.used_len;
+      used = h;
       lists = t.lists_len;
       lens = t.lens_len;
       queue = t.queue_len;
       flags = t.flags_len;
     }
+
+pub sized : (t : TablesMut) → Sized t.geo (tables_of t)
+sized t = sized_with t t.used.now t.used_len
+
+-- the marks that are lent are some marks
+pub marks_aside : (t : TablesMut) → Sound t.geo (tables_of t) → SoundMarksAside t
+marks_aside t S = record { marks = t.used.now; size = t.used_len; sound = S }
 
 -- the words, cut into their parts one after the other, and the use marks
 module _ (G : Geometry) (w u : List ℕ) where

@@ -1,11 +1,18 @@
 -- The tables that are lent part by part, as tables.
-use Rattle.std.specs.Prelude.{◌≡◌}
-use Rattle.model.specs.Tables.{Tables, tables}
+use Rattle.std.specs.Prelude.{ℕ, ◌≡◌, List, length}
+use Rattle.model.specs.Tables.{Tables, tables, pages, set_used}
+use Rattle.model.specs.Sound.{Sound}
 use Rattle.tables.specs.declared.TablesMut.{TablesMut}
 
 abbrev pub tables_of : TablesMut → Tables
 tables_of t =
     tables t.map.now t.free.now t.valid.now t.used.now t.lists.now t.lens.now t.queue.now t.flags.now t.alloc.now t.queued.now
+
+-- Sound, the use marks that are lent aside: with some marks in their place, one for each page. For calls that read no marks.
+pub record SoundMarksAside (t : TablesMut) : Type 0 where
+  pub marks : List ℕ
+  pub size : length marks ≡ pages t.geo
+  pub sound : Sound t.geo (set_used marks (tables_of t))
 
 -- the geometry and the places lent are the same: what a call leaves lies where it was lent
 pub record Same (a b : TablesMut) : Type 0 where

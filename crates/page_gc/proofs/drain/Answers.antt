@@ -1,6 +1,7 @@
 -- `drain` meets its contract: its loop goes on as the definition does (`Copying`), copy by copy.
 use Rattle.std.proofs.Common.{arith}
 use Rattle.std.proofs.lemmas.Result.{err_from_is_err_and}
+use Rattle.tables.proofs.Parts.{marks_aside}
 use Rattle.page_gc.proofs.Copying.{copying_start, sound_here, copying_empty, copying_end, known, sound_after, copying_more, copying_stops}
 use Rattle.page_gc.proofs.drain.Goals as goal
 
@@ -19,7 +20,7 @@ pub returns-then-t-v-eq0-clause-sound : goal.returns-then-t-v-eq0-clause-sound
 returns-then-t-v-eq0-clause-sound c = sound_here c.loop.invariant.copying
 
 pub last_listed-l-requires-clause-sound : goal.last_listed-l-requires-clause-sound
-last_listed-l-requires-clause-sound c = sound_here c.loop.invariant.copying
+last_listed-l-requires-clause-sound c = marks_aside _ (sound_here c.loop.invariant.copying)
 
 pub write_page-requires-clause-sound : goal.write_page-requires-clause-sound
 write_page-requires-clause-sound c = sound_here c.loop.invariant.copying

@@ -1,7 +1,7 @@
 -- The two tests are the definition's `due`: `invalidate-due`, `invalidate_flagged`, `invalidate_open`; and a due segment has room: `due_room`.
 use Rattle.std.proofs.Common.{◌∙◌}
 use Rattle.tables.specs.Parts.{tables_of}
-use Rattle.page_map.proofs.Drop.{counted, seg, due_room, invalidate-due, invalidate_flagged, invalidate_open}
+use Rattle.page_map.proofs.Drop.{counted_aside, seg, due_room, invalidate-due, invalidate_flagged, invalidate_open}
 use Rattle.page_map.proofs.invalidate.Goals as goal
 use Rattle.page_map.proofs.invalidate.Goals.{else-t-g-eq0-via-then-t-g-eq0+else-t-g-eq0-2, else-t-g-eq0-via-else-t-g-eq0}
 
@@ -9,7 +9,7 @@ pub enqueue-requires : goal.enqueue-requires
 enqueue-requires c =
     let t = c.args.t.now in
     let m = c.requires.mapped in
-    let C = counted t c.requires.sound in
+    let C = counted_aside t c.requires.sound in
     let room =
     due_room t.geo (tables_of t) c.args.l.0 c.args.g _ c.unlink.ensures.unlinked C m.0 m.1 c.if-t-g-eq0.true c.if-t-g-eq0-2.true in
     record { room = rw c.unlink.ensures.same.geo (seg C c.args.l.0 c.args.g m.0 m.1, room) }

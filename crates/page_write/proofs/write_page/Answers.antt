@@ -3,6 +3,7 @@ use Rattle.std.proofs.Common.{sym, ◌∙◌}
 use Rattle.std.proofs.lemmas.Result.{err_from_is_err_and}
 use Rattle.model.specs.Device.{state}
 use Rattle.tables.specs.Parts.{tables_of}
+use Rattle.tables.proofs.Parts.{marks_aside}
 use Rattle.device.specs.Lent.{flash_of}
 use Rattle.page_write.proofs.Laws.{within, spent_sound, spent_gap, wrote_none, wrote_spent, wrote_stored}
 use Rattle.page_write.proofs.write_page.Goals as goal
@@ -35,8 +36,9 @@ returns-in_err-done-clause-done c = λ counts.
 
 pub remap-requires-clause-sound : goal.remap-requires-clause-sound
 remap-requires-clause-sound c =
-    spent_sound c.args.t.now c.requires.sound c.args.bad.now c.in_ok-at.at (sym c.find_page.ensures ∙ c.in_ok-at.ensures.ok_part)
-    c.spend.new.t c.spend.ensures.same c.spend.ensures.spent
+    marks_aside c.spend.new.t
+    (spent_sound c.args.t.now c.requires.sound c.args.bad.now c.in_ok-at.at (sym c.find_page.ensures ∙ c.in_ok-at.ensures.ok_part)
+    c.spend.new.t c.spend.ensures.same c.spend.ensures.spent)
 
 pub remap-requires-clause-in_bounds : goal.remap-requires-clause-in_bounds
 remap-requires-clause-in_bounds c =
