@@ -50,6 +50,7 @@ pub fn put_words(d: &mut [u8], at: usize, ws: &[u32])
     }
 }
 
+// The word, and the long one, from `at` on.
 pub fn get_word(s: &[u8], at: usize) -> u32
     requires { at + 4 ≤ length s.now }
     ensures { result ≡ word_at s.now at }

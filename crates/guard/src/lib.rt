@@ -1,4 +1,5 @@
-// What the public entries test first, and the number of an answer.
+// What the public entries test first, and the number of an answer. The entries are lent slice by slice, as the C names are, so these functions are too,
+// and their clause is a plain `Good geo`: definitions and theorems speak of the plain geometry.
 #![tactic(auto)]
 
 ghost use Rattle.std.specs.Prelude.{◌≡◌, ◌&&◌, [], ◌∷◌, ◌+◌, ◌*◌, ◌<◌, leb, eqb, length};
@@ -33,7 +34,7 @@ pub fn flash_fits(geo: Geometry, bytes: &[u8], marks: &[u8], counts: &[u32]) -> 
     bytes_fit(geo, bytes) && marks.len() == geo.pages() && counts.len() == geo.n
 }
 
-// Scratch of k bytes, and of k words, which callers test by two names: the right size, and all zero.
+// Scratch of k bytes, and of k words: the right size, and all zero. One function for both would ask a trait of bytes and words for a line each.
 pub fn clean(s: &[u8], k: usize) -> bool
     ensures { result ≡ (eqb (length s.now) k && blank s.now) }
 {
@@ -137,6 +138,7 @@ fn refusal(numbers: Numbers, c: Cause) -> usize
     }
 }
 
+// By a definition's name: a number below 4,096 is no loss.
 fn negated(r: usize) -> i64
     requires { r < 4096 }
     ensures { result ≡ negated r }

@@ -9,7 +9,8 @@ ghost use Rattle.lines.specs.Text.{decimal, answer_text, line, answer_line, glyp
 
 use model::{Geometry, PhysicalAddress};
 
-// A line as far as it is laid: the buffer, and the place behind what is laid in.
+// A line as far as it is laid: the buffer, and the place behind what is laid in. By hand: what `write!` writes, a contract tells of a String alone, and
+// here is no heap.
 #[derive(Drop)]
 struct Line<'a> {
     out: &'a mut [u8],

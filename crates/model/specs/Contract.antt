@@ -1,4 +1,4 @@
--- What the inner functions ask of their callers, and how they promise what a definition says.
+-- How an inner function promises what a definition says; and what the bench's inner calls ask of their callers.
 use Rattle.std.specs.Prelude.{ℕ, ◌*◌, ◌≡◌, List, length}
 use Rattle.model.specs.Lists.{zeros}
 use Rattle.model.specs.Numbers.{Geometry, Good, Answer}

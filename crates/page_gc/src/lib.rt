@@ -16,7 +16,8 @@ use device::FlashMut;
 use model::{Answer, Cause};
 use tables::TablesMut;
 
-// "a copy gets 14 or 5": whether for room or at the device is passed on, told apart from a write's.
+// "a copy gets 14 or 5": whether for room or at the device is passed on, told apart from a write's. No `From`: a cause becomes another cause, as the
+// definition of this name has it.
 fn of_copy(c: Cause) -> Cause
     ensures { result ≡ of_copy c }
 {
@@ -27,7 +28,8 @@ fn of_copy(c: Cause) -> Cause
     }
 }
 
-// "While the victim's list is not empty, its last logical page is read whole and written whole": a write of no bytes does both.
+// "While the victim's list is not empty, its last logical page is read whole and written whole": a write of no bytes does both. A list has at most p
+// pages, and p turns are the definition's own bound.
 fn drain(
     t: &mut TablesMut<'_>,
     f: &mut FlashMut<'_>,

@@ -1,4 +1,5 @@
-// Steps 2 and 4 of document 01 on the lent tables: finding a page, spending it, invalidating, placing.
+// Steps 2 and 4 of document 01 on the lent tables: finding a page, spending it, invalidating, placing. That the tables are sound stays a clause, and no
+// part of their type: between the steps of a write it is broken.
 #![tactic(auto)]
 
 ghost use Rattle.std.specs.Prelude.{◌≡◌, ◌≤◌, ◌<◌, length};

@@ -1,4 +1,5 @@
-// Step 4 of document 01: a page is found, built, spent and programmed; then the logical page is mapped to it.
+// Step 4 of document 01: a page is found, built, spent and programmed; then the logical page is mapped to it. Tables and flash are lent one by one: in
+// one struct was tried, and of a struct in a struct the proof forgets what its references end as.
 #![tactic(auto)]
 
 ghost use Rattle.std.specs.Prelude.{◌≡◌, List, ℕ, ◌+◌, ◌<◌, ◌≤◌, length};
