@@ -1,6 +1,6 @@
 -- What the functions over a whole slice answer, in the words of the definitions.
 use Rattle.std.proofs.Common.{ℕ, ◌+◌, ◌-◌, ◌≤◌, ◌<◌, ◌≡◌, Bool, true, false, not, ◌&&◌, eqb, List, [], ◌∷◌, length, refl, sym, ap, ◌∙◌, arith, sum}
-use Rattle.std.specs.List.{list_all, fold, sum_by}
+use Rattle.std.specs.List.{list_all, sum_by}
 use Rattle.std.proofs.lemmas.List.Recursion.{is_sum_by, and_at, and_from_places}
 use borrow.Author.Tests.{eq-eqb, eqb-true}
 use Rattle.model.specs.Lists.{blank, bit, total}
@@ -13,12 +13,6 @@ use Rattle.sound.specs.Steps.{Every, unlike, miss}
 pub every_says : (v : ℕ) (xs : List ℕ) (r : Bool) → r ≡ list_all (λ x. eqb x v) xs → Says r (Every v xs)
 every_says v xs true e = λ k h. eqb-true _ v (and_at (list_all (λ x. eqb x v)) (λ x. eqb x v) refl (λ _ _. refl) xs k 0 h (sym e))
 every_says v xs false e = λ all. cc (and_from_places (list_all (λ x. eqb x v)) (λ x. eqb x v) refl (λ _ _. refl) xs 0 (λ k h. eq-eqb _ v (all k h)))
-
-pub fold_all : {A : Type 0} (p : A → Bool) (b : Bool) (xs : List A) → fold (λ a x. a && p x) b xs ≡ (b && list_all p xs)
-fold_all p true [] = refl
-fold_all p false [] = refl
-fold_all p true (x ∷ xs) = fold_all p (p x) xs
-fold_all p false (x ∷ xs) = fold_all p false xs
 
 pub all_blank : (xs : List ℕ) → list_all (λ x. eqb x 0) xs ≡ blank xs
 unfolding blank

@@ -14,11 +14,15 @@ ghost use Rattle.sound.specs.Steps.{unlike, Marks, Entries, Slots, Queue, Number
 use model::{Geometry, PhysicalAddress};
 use tables::TablesRef;
 
-// Whether every element of s is v. A fold looks at each, so that it is vectorised: `all`, which stops early, was tried, and misses a bar of speed.
+// Whether every element of s is v. The loop has one way out, so that it is vectorised: `all` and `fold` were tried, and miss a bar of speed.
 fn every<T: PartialEq + Copy>(s: &[T], v: T) -> bool
     ensures { result ≡ list_all (λ x. T.eq x v) s.now }
 {
-    s.iter().fold(true, |same, x| same & (*x == v))
+    let mut same = true;
+    for x in s {
+        same &= *x == v;
+    }
+    same
 }
 
 // Whether bytes, a scratch or marks, are all zero.
