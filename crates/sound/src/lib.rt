@@ -8,11 +8,13 @@ ghost use Rattle.model.specs.Numbers.{Good, good?};
 ghost use Rattle.model.specs.Tables.{tab_words, pages, view, region};
 ghost use Rattle.model.specs.Sound.{soundb};
 ghost use Rattle.model.proofs.Official.{Says};
+ghost use Rattle.tables.specs.Parts.{tables_in};
 ghost use Rattle.sound.specs.Steps.{unlike, Marks, Entries, Slots, Queue, Numbers, Segment, Heads, Balanced};
 
 use model::{Geometry, PhysicalAddress};
+use tables::TablesRef;
 
-// Whether every element of s is v. The loop has one way out, so that it is vectorised: `all` was tried, and misses a bar of speed.
+// Whether every element of s is v. The loop has one way out, so that it is vectorised: `all` and `fold` were tried, and miss a bar of speed.
 fn every<T: PartialEq + Copy>(s: &[T], v: T) -> bool
     ensures { result ≡ list_all (λ x. T.eq x v) s.now }
 {
@@ -112,7 +114,7 @@ impl<'a> Home<'a> {
         ensures says { Says result (Entries list.now self.now.map.now self.now.first self.now.used) }
         ensures seen_unchanged { drop self.now.used seen.new ≡ drop self.now.used seen.old }
     {
-        // `get` and `checked_sub`: tried, and miss a bar of speed.
+        // `get` and `checked_sub`: tried, and miss a bar of speed. Not `all`: its closure would change `seen`.
         for l in list {
             let l = *l as usize;
             if self.map.len() <= l {
@@ -160,6 +162,7 @@ fn mark_queue(queue: &[u32], free: &[u32], flags: &[u32], seen: &mut [u8]) -> bo
     ensures says { Says result (Queue queue.now free.now flags.now) }
     ensures seen_unchanged { drop (length free.now) seen.new ≡ drop (length free.now) seen.old }
 {
+    // Not `all`: its closure would change `seen`.
     for q in queue {
         let q = *q as usize;
         if free.len() <= q || free[q] != 0 || flags[q] != 1 || seen[q] != 0 {
@@ -190,158 +193,67 @@ fn part<T>(s: &[T], p: usize, g: usize) -> &[T]
     &s[g * p..g * p + p]
 }
 
-// Words and use marks with tables in them, lent to look at. Where each part lies stands here alone.
-#[derive(Clone, Copy)]
-struct Packed<'a> {
-    geo: Geometry,
-    tab: &'a [u32],
-    used: &'a [u8],
-    ghost good: { Good geo },
-    ghost tab_len: { length tab.now ≡ tab_words geo },
-    ghost used_len: { length used.now ≡ pages geo },
+// Whether segment g's record is right. The marks are for its pages.
+#[tactic(auto, using(model::proofs::Slots::part_fits))]
+fn segment(tables: &TablesRef<'_>, g: usize, seen: &mut [u8]) -> bool
+    requires { (g < tables.now.geo.n) × (seen.old ≡ zeros tables.now.geo.p) }
+    ensures says { Says result (Segment tables.now.geo (tables_in tables.now) g) }
+    ensures seen_unchanged { seen.new ≡ seen.old }
+{
+    let p = tables.geo.p;
+    let record = Record {
+        free: tables.free()[g] as usize,
+        valid: tables.valid()[g] as usize,
+        len: tables.lens()[g] as usize,
+        flag: tables.flags()[g] as usize,
+    };
+    if !record.right(p) {
+        return false;
+    }
+    let home = Home {
+        map: tables.map(),
+        first: g * tables.geo.span(),
+        used: p - record.free,
+    };
+    marks(part(tables.used, p, g), home.used)
+        && home.slots(part(tables.lists(), p, g), record.len, seen)
 }
 
-#[tactic(auto, unfolding(model::specs::Tables::view))]
-impl<'a> Packed<'a> {
-    ghost use Rattle.sound.specs.Parts.{tables_in};
-
-    fn map(&self) -> &'a [u32]
-        ensures part { result.now ≡ (tables_in self.now).map }
-        ensures len { length result.now ≡ self.now.geo.e }
-    {
-        &self.tab[..self.geo.e]
+// Whether every segment's record is right.
+fn segments(tables: &TablesRef<'_>, seen: &mut [u8]) -> bool
+    requires { seen.old ≡ zeros tables.now.geo.p }
+    ensures says { Says result ((g : ℕ) → g < tables.now.geo.n → Segment tables.now.geo (tables_in tables.now) g) }
+    ensures seen_unchanged { seen.new ≡ seen.old }
+{
+    // Not `all`: its closure would change `seen`.
+    for g in 0..tables.geo.n {
+        if !segment(tables, g, seen) {
+            return false;
+        }
     }
-
-    // The five tables of a word for each segment lie behind the map: free counts, valid counts, lengths, queue, flags.
-    fn column(&self, i: usize) -> &'a [u32]
-        requires { i < 5 }
-        ensures part { result.now ≡ region (self.now.geo.e + self.now.geo.n * i) self.now.geo.n self.now.tab.now }
-        ensures len { length result.now ≡ self.now.geo.n }
-    {
-        let start = self.geo.e + self.geo.n * i;
-        &self.tab[start..start + self.geo.n]
-    }
-
-    fn free(&self) -> &'a [u32]
-        ensures part { result.now ≡ (tables_in self.now).free }
-        ensures len { length result.now ≡ self.now.geo.n }
-    {
-        self.column(0)
-    }
-
-    fn valid(&self) -> &'a [u32]
-        ensures part { result.now ≡ (tables_in self.now).valid }
-        ensures len { length result.now ≡ self.now.geo.n }
-    {
-        self.column(1)
-    }
-
-    fn lens(&self) -> &'a [u32]
-        ensures part { result.now ≡ (tables_in self.now).lens }
-        ensures len { length result.now ≡ self.now.geo.n }
-    {
-        self.column(2)
-    }
-
-    fn queue(&self) -> &'a [u32]
-        ensures part { result.now ≡ (tables_in self.now).queue }
-        ensures len { length result.now ≡ self.now.geo.n }
-    {
-        self.column(3)
-    }
-
-    fn flags(&self) -> &'a [u32]
-        ensures part { result.now ≡ (tables_in self.now).flags }
-        ensures len { length result.now ≡ self.now.geo.n }
-    {
-        self.column(4)
-    }
-
-    // Behind those the allocation segment and the queue's length, and then the lists.
-    fn alloc(&self) -> usize
-        ensures { result ≡ (tables_in self.now).alloc }
-    {
-        self.tab[self.geo.e + self.geo.n * 5] as usize
-    }
-
-    fn queued(&self) -> usize
-        ensures { result ≡ (tables_in self.now).queued }
-    {
-        self.tab[self.geo.e + self.geo.n * 5 + 1] as usize
-    }
-
-    fn lists(&self) -> &'a [u32]
-        ensures part { result.now ≡ (tables_in self.now).lists }
-        ensures len { length result.now ≡ self.now.geo.n * self.now.geo.p }
-    {
-        &self.tab[self.geo.e + self.geo.n * 5 + 2..]
-    }
+    true
 }
 
-impl<'a> Packed<'a> {
-    ghost use Rattle.sound.specs.Parts.{tables_in};
-
-    // Whether segment g's record is right. The marks are for its pages.
-    #[tactic(auto, using(model::proofs::Slots::part_fits))]
-    fn segment(&self, g: usize, seen: &mut [u8]) -> bool
-        requires { (g < self.now.geo.n) × (seen.old ≡ zeros self.now.geo.p) }
-        ensures says { Says result (Segment self.now.geo (tables_in self.now) g) }
-        ensures seen_unchanged { seen.new ≡ seen.old }
-    {
-        let p = self.geo.p;
-        let record = Record {
-            free: self.free()[g] as usize,
-            valid: self.valid()[g] as usize,
-            len: self.lens()[g] as usize,
-            flag: self.flags()[g] as usize,
-        };
-        if !record.right(p) {
-            return false;
-        }
-        let home = Home {
-            map: self.map(),
-            first: g * self.geo.span(),
-            used: p - record.free,
-        };
-        marks(part(self.used, p, g), home.used)
-            && home.slots(part(self.lists(), p, g), record.len, seen)
+// Whether the allocation segment and the queue are right. The marks are for the segments.
+fn heads(tables: &TablesRef<'_>, seen: &mut [u8]) -> bool
+    requires { seen.old ≡ zeros tables.now.geo.n }
+    ensures says { Says result (Heads tables.now.geo (tables_in tables.now)) }
+    ensures seen_unchanged { seen.new ≡ seen.old }
+{
+    let n = tables.geo.n;
+    let count = tables.queued();
+    let queue = tables.queue();
+    if n <= tables.alloc() || n < count {
+        return false;
     }
+    every(&queue[count..], 0) && queued(&queue[..count], tables.free(), tables.flags(), seen)
+}
 
-    // Whether every segment's record is right.
-    fn segments(&self, seen: &mut [u8]) -> bool
-        requires { seen.old ≡ zeros self.now.geo.p }
-        ensures says { Says result ((g : ℕ) → g < self.now.geo.n → Segment self.now.geo (tables_in self.now) g) }
-        ensures seen_unchanged { seen.new ≡ seen.old }
-    {
-        for g in 0..self.geo.n {
-            if !self.segment(g, seen) {
-                return false;
-            }
-        }
-        true
-    }
-
-    // Whether the allocation segment and the queue are right. The marks are for the segments.
-    fn heads(&self, seen: &mut [u8]) -> bool
-        requires { seen.old ≡ zeros self.now.geo.n }
-        ensures says { Says result (Heads self.now.geo (tables_in self.now)) }
-        ensures seen_unchanged { seen.new ≡ seen.old }
-    {
-        let n = self.geo.n;
-        let count = self.queued();
-        let queue = self.queue();
-        if n <= self.alloc() || n < count {
-            return false;
-        }
-        every(&queue[count..], 0) && queued(&queue[..count], self.free(), self.flags(), seen)
-    }
-
-    // Whether the lists have as many entries as the map has mapped pages.
-    fn balanced(&self) -> bool
-        ensures { Says result (Balanced (tables_in self.now)) }
-    {
-        total32(self.lens()) == u64::from(unlike(self.map(), PhysicalAddress::EMPTY.0))
-    }
+// Whether the lists have as many entries as the map has mapped pages.
+fn balanced(tables: &TablesRef<'_>) -> bool
+    ensures { Says result (Balanced (tables_in tables.now)) }
+{
+    total32(tables.lens()) == u64::from(unlike(tables.map(), PhysicalAddress::EMPTY.0))
 }
 
 // The soundness test. It is linear: a look at each word and each use mark, and one at the map for each list entry.
@@ -352,7 +264,7 @@ pub fn sound(geo: Geometry, tab: &[u32], used: &[u8], seen: &mut [u8]) -> bool
     ensures value { result ≡ soundb geo (view geo tab.now used.now) }
     ensures seen_after { seen.new ≡ zeros (geo.n + geo.p) }
 {
-    let tables = Packed { geo, tab, used };
-    let (segments, pages) = seen.split_at_mut(geo.n);
-    tables.heads(segments) && tables.segments(pages) && tables.balanced()
+    let tables = TablesRef { geo, tab, used };
+    let (segment_marks, page_marks) = seen.split_at_mut(geo.n);
+    heads(&tables, segment_marks) && segments(&tables, page_marks) && balanced(&tables)
 }

@@ -1,12 +1,16 @@
--- The tables that are lent part by part, as tables.
+-- The tables that are lent part by part, and those that lie in words and are lent to look at, as tables.
 use Rattle.std.specs.Prelude.{ℕ, ◌≡◌, List, length}
-use Rattle.model.specs.Tables.{Tables, tables, pages, set_used}
+use Rattle.model.specs.Tables.{Tables, tables, view, pages, set_used}
 use Rattle.model.specs.Sound.{Sound}
 use Rattle.tables.specs.declared.TablesMut.{TablesMut}
+use Rattle.tables.specs.declared.TablesRef.{TablesRef}
 
 abbrev pub tables_of : TablesMut → Tables
 tables_of t =
     tables t.map.now t.free.now t.valid.now t.used.now t.lists.now t.lens.now t.queue.now t.flags.now t.alloc.now t.queued.now
+
+abbrev pub tables_in : TablesRef → Tables
+tables_in w = view w.geo w.tab.now w.used.now
 
 -- Sound, the use marks that are lent aside: with some marks in their place, one for each page. For calls that read no marks.
 pub record SoundMarksAside (t : TablesMut) : Type 0 where

@@ -1,11 +1,11 @@
 -- The parts that are tested are those of the tables, and a segment is right where its counts, its marks and its slots are.
 use Rattle.model.proofs.View.{used_is}
 use Rattle.sound.proofs.Says.{says_iff, says_not}
-use Rattle.sound.proofs.Packed.segment.Goals as goal
+use Rattle.sound.proofs.segment.Goals as goal
 
 pub returns-then-marks-clause-says : goal.returns-then-marks-clause-says
 returns-then-marks-clause-says c =
-    let w = c.args.self.now in
+    let w = c.args.tables.now in
     rw (
       ← c.free.ensures.part,
       ← c.valid.ensures.part,
@@ -22,6 +22,6 @@ returns-then-marks-clause-says c =
 
 pub returns-else-marks-clause-says : goal.returns-else-marks-clause-says
 returns-else-marks-clause-says c =
-    let w = c.args.self.now in
+    let w = c.args.tables.now in
     says_not _ c.if-marks.false
     (λ r. c.if-marks.ensures (rw (← c.free.ensures.part, used_is w.geo w.tab.now w.used.now, ← c.part.ensures) at r).marks)

@@ -1,6 +1,6 @@
 -- The segment tested is right, and the marks are as they came.
 use Rattle.std.proofs.Common.{◌∙◌, below_more}
-use Rattle.sound.proofs.Packed.segments.Goals as goal
+use Rattle.sound.proofs.segments.Goals as goal
 
 pub loop-g-preserved : goal.loop-g-preserved
 loop-g-preserved c =

@@ -3,7 +3,7 @@ use Rattle.std.proofs.Common.{ap, sym, ◌∙◌, ◌-◌, length, arith}
 use Rattle.model.specs.Tables.{at, region}
 use Rattle.sound.proofs.Says.{says_iff, says_not}
 use Rattle.sound.proofs.Counts.{every_says, part_each, each_part}
-use Rattle.sound.proofs.Packed.heads.Goals as goal
+use Rattle.sound.proofs.heads.Goals as goal
 
 pub returns-then-every-clause-says : goal.returns-then-every-clause-says
 returns-then-every-clause-says c =
