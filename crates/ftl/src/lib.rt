@@ -12,7 +12,7 @@ ghost use Rattle.model.specs.Device.{flash, state};
 ghost use Rattle.model.specs.Checkpoint.{file_size};
 ghost use Rattle.model.specs.Entry.{recorder, lent, no_flash, Answered, tables_fit, clean, all_fits, page_scratch, seen_scratch};
 ghost use Rattle.model.specs.Entry.{formatting, opening, read, write, collecting, collection, list_collection, threshold_collection, encoding, restoring};
-ghost use Rattle.ftl.specs.Tests.{tested};
+ghost use Rattle.ftl.specs.Tests.{tested, within};
 ghost use Rattle.ftl.specs.Calls.{passes_of};
 
 use device::FlashMut;
@@ -79,11 +79,27 @@ fn show(geo: Geometry, a: PhysicalAddress, off: usize, len: usize, bytes: &[u8],
     out[..len].copy_from_slice(&bytes[start..start + len]);
 }
 
+// The logical page of a sector and the offset in it, where the length lies within that page.
+fn within_page(geo: Geometry, sector: usize, len: usize) -> Result<(LogicalPage, usize), Cause>
+    requires { Good geo }
+    ensures { result ≡ within geo sector len }
+{
+    let l = sector / geo.s;
+    if l >= geo.e {
+        return Err(Cause::Wrong);
+    }
+    let off = sector % geo.s;
+    if len > geo.s - off {
+        return Err(Cause::Wrong);
+    }
+    Ok((LogicalPage(l), off))
+}
+
 // "bytes at the offset of the mapped page"; bytes of the buffer beyond the length stay.
 pub fn read(
     geo: Geometry,
     sector: usize,
-    length: usize,
+    len: usize,
     tab: &[u32],
     used: &[u8],
     bytes: &[u8],
@@ -91,33 +107,26 @@ pub fn read(
     seen: &mut [u8],
 ) -> Answer
     ensures answered { Answered
-        (read geo sector length (lent (recorder tab.now used.now (flash bytes.now [] [] 0)) out.old (seen.old ∷ [])))
+        (read geo sector len (lent (recorder tab.now used.now (flash bytes.now [] [] 0)) out.old (seen.old ∷ [])))
         (lent (recorder tab.now used.now (flash bytes.now [] [] 0)) out.new (seen.new ∷ [])) result }
     ensures countable { Countable result }
 {
     if !sound::good(geo) {
         return Err(Cause::Wrong);
     }
-    if !guard::read_fits(geo, length, tab, used, bytes, out, seen) {
+    if !guard::read_fits(geo, len, tab, used, bytes, out, seen) {
         return Err(Cause::Wrong);
     }
     if !sound::sound(geo, tab, used, seen) {
         return Err(Cause::Unsound);
     }
-    let l = sector / geo.s;
-    if l >= geo.e {
-        return Err(Cause::Wrong);
-    }
-    let off = sector % geo.s;
-    if length > geo.s - off {
-        return Err(Cause::Wrong);
-    }
-    let a = PhysicalAddress(tab[l]);
+    let (l, off) = within_page(geo, sector, len)?;
+    let a = PhysicalAddress(tab[l.0]);
     if a.is_empty() {
         return Err(Cause::Unmapped);
     }
-    show(geo, a, off, length, bytes, out);
-    Ok(length)
+    show(geo, a, off, len, bytes, out);
+    Ok(len)
 }
 
 // Bytes at a sector, within one page.
@@ -154,19 +163,12 @@ pub fn write(
     if !sound::sound(geo, tab, used, seen) {
         return Err(Cause::Unsound);
     }
-    let l = sector / geo.s;
-    if l >= geo.e {
-        return Err(Cause::Wrong);
-    }
-    let off = sector % geo.s;
-    if len > geo.s - off {
-        return Err(Cause::Wrong);
-    }
+    let (l, off) = within_page(geo, sector, len)?;
     let mut deed = Writing {
         bytes,
         marks,
         fuse,
-        l: LogicalPage(l),
+        l,
         off,
         xs: &xs[..len],
         bad,
