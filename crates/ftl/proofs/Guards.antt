@@ -20,6 +20,10 @@ use Rattle.ftl.proofs.Passing.{clean-zeros}
 pub by : {o o' : Outcome} {y : Lent} {r : Answer} → o ≡ o' → Answered o' y r → Answered o y r
 by {y = y} {r = r} e = subst (λ o. Answered o y r) (sym e)
 
+-- and of what is left by another name
+pub left_as : {o : Outcome} {y y' : Lent} {r : Answer} → y ≡ y' → Answered o y r → Answered o y' r
+left_as {o = o} {r = r} e = subst (λ y. Answered o y r) e
+
 -- a refusal that changes nothing
 pub answered : {c : Cause} {x : Lent} → Answered (refused c x) x (Err c)
 answered = record { left_is = refl; answer_is = refl }

@@ -1,4 +1,5 @@
 pub mod Guards
+pub mod Places
 pub mod Opening
 pub mod Reading
 pub mod Passing

@@ -3,11 +3,11 @@ use Prim.Native.Nat.{ℕ, ◌+◌, ◌*◌, ◌-◌, ◌<◌, ◌≤◌}
 use native.Mathlib.Omega.{arith}
 use mathlib.Core.Path.{◌≡◌, refl, sym, ap, ◌∙◌}
 use mathlib.Core.Logic.{◌≢◌}
-use mathlib.Core.Bool.{Bool, true, false, not}
+use mathlib.Core.Bool.{Bool, true, false, not, ◌&&◌}
 use mathlib.Core.List.{List, [], ◌∷◌}
 use lib.Dec.{eqb, leb}
 use lib.ListN.{length, take, drop}
-use borrow.Author.Tests.{eq-eqb, ne_eqb, lt-ltb, le-ltb, le-leb, lt-leb}
+use borrow.Author.Tests.{eq-eqb, ne_eqb}
 use Rattle.model.specs.declared.Geometry.{Geometry}
 use Rattle.model.specs.declared.Cause.TheVariants.{Wrong, Unsound, Unmapped}
 use Rattle.model.specs.Numbers.{Ok, Err}
@@ -21,8 +21,9 @@ use Rattle.model.proofs.Slots.{part_fits}
 use Rattle.model.proofs.Regions.{region-region}
 use Rattle.model.proofs.View.{sized-view}
 use Rattle.model.proofs.Official.{soundb_counted}
-use Rattle.model.proofs.Refusals.{guarded_sound, guarded_page, guarded_overrun}
+use Rattle.model.proofs.Refusals.{guarded_sound}
 use Rattle.model.proofs.Guard.{each, tables_test, guarded_passes, unless_passes}
+use Rattle.ftl.proofs.Places.{guarded_place, inside?, room?}
 use Rattle.ftl.proofs.Guards.{by, all_sizes, bad_geometry, bad_size, unless_fails}
 
 -- page f of the bytes: it ends within them, and what a part of it is
@@ -74,32 +75,26 @@ module _ (G : Geometry) (sector len : ℕ) (x : Lent) where
       read_unsound h = by (guarded_sound _ _ _ _ x _ (all_sizes G read_tests g e) h) (record { left_is = back; answer_is = refl })
 
       module _ (h : soundb G (tables_of G x) ≡ true) where
-        pub read_page : G.e ≤ logical_page G sector → Answered (read G sector len x) (lent x.unit x.buffer s) (Err Wrong)
+        pub read_place : (inside? G sector && room? G sector len) ≡ false → Answered (read G sector len x) (lent x.unit x.buffer s) (Err Wrong)
         unfolding read
-        read_page l =
-            by (guarded_page _ _ _ _ x _ (all_sizes G read_tests g e) h (le-ltb _ _ l)) (record { left_is = back; answer_is = refl })
+        read_place o =
+            by (guarded_place _ _ _ _ x _ (all_sizes G read_tests g e) h o) (record { left_is = back; answer_is = refl })
 
-        module _ (l : logical_page G sector < G.e) where
-          pub read_overrun : G.s < offset G sector + len → Answered (read G sector len x) (lent x.unit x.buffer s) (Err Wrong)
+        module _ (l : inside? G sector ≡ true) (o : room? G sector len ≡ true) where
+          pub read_unmapped : word_read ≡ empty → Answered (read G sector len x) (lent x.unit x.buffer s) (Err Unmapped)
           unfolding read
-          read_overrun o =
-              by (guarded_overrun _ _ _ _ x _ (all_sizes G read_tests g e) h (lt-ltb _ _ l) (lt-leb _ _ o)) (record { left_is = back; answer_is = refl })
+          read_unmapped m =
+              by
+              (guarded_passes _ _ _ _ x _ (all_sizes G read_tests g e) h l o
+              ∙ unless_fails _ _ x _ (ap not (eq-eqb word_read empty m)))
+              (record { left_is = back; answer_is = refl })
 
-          module _ (o : offset G sector + len ≤ G.s) where
-            pub read_unmapped : word_read ≡ empty → Answered (read G sector len x) (lent x.unit x.buffer s) (Err Unmapped)
-            unfolding read
-            read_unmapped m =
-                by
-                (guarded_passes _ _ _ _ x _ (all_sizes G read_tests g e) h (lt-ltb _ _ l) (le-leb _ _ o)
-                ∙ unless_fails _ _ x _ (ap not (eq-eqb word_read empty m)))
-                (record { left_is = back; answer_is = refl })
-
-            pub read_done : word_read ≢ empty → (d : List ℕ)
-                → d ≡ splice 0 (take len (drop (offset G sector) (slot G.s (flat G word_read) x.unit.flash.bytes))) x.buffer
-                → Answered (read G sector len x) (lent x.unit d s) (Ok len)
-            unfolding read
-            read_done m d v =
-                by
-                (guarded_passes _ _ _ _ x _ (all_sizes G read_tests g e) h (lt-ltb _ _ l) (le-leb _ _ o)
-                ∙ unless_passes _ _ x _ (ap not (ne_eqb word_read empty m)))
-                (record { left_is = cc (v, q); answer_is = refl })
+          pub read_done : word_read ≢ empty → (d : List ℕ)
+              → d ≡ splice 0 (take len (drop (offset G sector) (slot G.s (flat G word_read) x.unit.flash.bytes))) x.buffer
+              → Answered (read G sector len x) (lent x.unit d s) (Ok len)
+          unfolding read
+          read_done m d v =
+              by
+              (guarded_passes _ _ _ _ x _ (all_sizes G read_tests g e) h l o
+              ∙ unless_passes _ _ x _ (ap not (ne_eqb word_read empty m)))
+              (record { left_is = cc (v, q); answer_is = refl })

@@ -1,14 +1,13 @@
 -- The write entry: each test that fails, and the write done.
-use Prim.Native.Nat.{ℕ, ◌+◌, ◌-◌, ◌<◌, ◌≤◌}
-use native.Mathlib.Nat.{mod-lt}
+use Prim.Native.Nat.{ℕ, ◌+◌, ◌≤◌}
 use native.Mathlib.Omega.{arith}
 use mathlib.Core.Path.{◌≡◌, refl, sym, ap₂, ◌∙◌, subst}
 use mathlib.Core.Bool.{Bool, true, false, ◌&&◌}
 use mathlib.Core.List.{List, [], ◌∷◌}
-use lib.Dec.{eqb, leb, ltb}
+use lib.Dec.{eqb, leb}
 use lib.ListN.{length, take}
 use lib.Seq.{length-take-le}
-use borrow.Author.Tests.{le-leb, lt-leb, leb-true}
+use borrow.Author.Tests.{leb-true}
 use Rattle.model.specs.declared.Geometry.{Geometry}
 use Rattle.model.specs.Numbers.{Answer}
 use Rattle.model.specs.declared.Cause.{Cause}
@@ -22,21 +21,12 @@ use Rattle.model.specs.Contract.{Done}
 use Rattle.model.specs.PageWrite.{write_page}
 use Rattle.model.specs.Entry.{Recorder, recorder, Lent, lent, Outcome, Answered, refused, clean, tables_fit, flash_fits, page_scratch, seen_scratch, all_fits, back, write}
 use Rattle.model.proofs.Guard.{guarded_passes}
-use Rattle.model.proofs.Refusals.{guarded_sizes, guarded_sound, guarded_page, guarded_overrun}
+use Rattle.model.proofs.Refusals.{guarded_sizes, guarded_sound}
 use Rattle.guard.specs.Countable.{Countable}
+use Rattle.ftl.proofs.Places.{guarded_place, inside?, room?}
 use Rattle.ftl.proofs.Guards.{by, answered}
 use Rattle.ftl.proofs.Answers.{write_upto, upto_countable}
 use Rattle.ftl.proofs.Passing.{clean?, fit?, sound?, Passed, unit_is}
-
--- the offset lies in the page, and so the page's end is reached or not
-pub offset_lt : (G : Geometry) (sector : ℕ) → 0 < G.s → offset G sector < G.s
-offset_lt G sector h = mod-lt sector h
-
-pub fits_in : (off len s : ℕ) → off < s → len ≤ s - off → leb (off + len) s ≡ true
-fits_in off len s h r = le-leb (off + len) s (omega arith)
-
-pub runs_over : (off len s : ℕ) → off < s → s - off < len → leb (off + len) s ≡ false
-runs_over off len s h r = lt-leb (off + len) s (omega arith)
 
 -- what the inner write is lent of the caller's data
 pub sent_fits : (off len s : ℕ) (d : List ℕ) → len ≤ length d → leb (off + len) s ≡ true → off + length (take len d) ≤ s
@@ -76,12 +66,6 @@ module _ (G : Geometry) (bad : List ℕ) (x : Recorder) (page seen : List ℕ) (
 
   abbrev sounds : Bool
   sounds = sound? G bad x page seen
-
-  abbrev inside? : Bool
-  inside? = ltb (logical_page G sector) G.e
-
-  abbrev room? : Bool
-  room? = leb (offset G sector + len) G.s
 
   abbrev pub inner : Out
   inner = write_page G bad (logical_page G sector) (offset G sector) (take len d) (state (view G x.words x.used) x.flash)
@@ -129,7 +113,7 @@ module _ (G : Geometry) (bad : List ℕ) (x : Recorder) (page seen : List ℕ) (
 
   wrong : (good? G && (fits? && long?)) ≡ false → Answered entry given (Err Wrong)
   unfolding write
-  wrong e = stays Wrong (guarded_sizes sized? sounds inside? room? given (back G given inner) (sized_not e))
+  wrong e = stays Wrong (guarded_sizes sized? sounds _ _ given (back G given inner) (sized_not e))
 
   pub wrong_geometry : good? G ≡ false → Answered entry given (Err Wrong)
   wrong_geometry e = wrong (rw e)
@@ -146,23 +130,19 @@ module _ (G : Geometry) (bad : List ℕ) (x : Recorder) (page seen : List ℕ) (
 
     pub unsound : sounds ≡ false → Answered entry left (Err Unsound)
     unfolding write
-    unsound e = stays_seen P seen' s Unsound (guarded_sound sized? sounds inside? room? given (back G given inner) (sized P l) e)
+    unsound e = stays_seen P seen' s Unsound (guarded_sound sized? sounds _ _ given (back G given inner) (sized P l) e)
 
-    pub outside : sounds ≡ true → inside? ≡ false → Answered entry left (Err Wrong)
+    pub refused_place : sounds ≡ true → (inside? G sector && room? G sector len) ≡ false → Answered entry left (Err Wrong)
     unfolding write
-    outside q e = stays_seen P seen' s Wrong (guarded_page sized? sounds inside? room? given (back G given inner) (sized P l) q e)
-
-    pub overrun : sounds ≡ true → inside? ≡ true → room? ≡ false → Answered entry left (Err Wrong)
-    unfolding write
-    overrun q i e = stays_seen P seen' s Wrong (guarded_overrun sized? sounds inside? room? given (back G given inner) (sized P l) q i e)
+    refused_place q e = stays_seen P seen' s Wrong (guarded_place sized? sounds _ _ given (back G given inner) (sized P l) q e)
 
     -- the inner write answered r, and left the words w, the use marks u and the flash f
-    pub done : sounds ≡ true → inside? ≡ true → room? ≡ true → (w u : List ℕ) (f : Flash) (page' : List ℕ)
+    pub done : sounds ≡ true → inside? G sector ≡ true → room? G sector len ≡ true → (w u : List ℕ) (f : Flash) (page' : List ℕ)
         → length w ≡ length x.words → page' ≡ zeros G.s → (r : Answer) → Done inner r (state (view G w u) f)
         → Answered entry (lent (recorder w u f) [] (page' ∷ seen' ∷ [])) r
     unfolding write
     done q i o w u f page' long p r D =
-        by (guarded_passes sized? sounds inside? room? given (back G given inner) (sized P l) q i o)
+        by (guarded_passes sized? sounds _ _ given (back G given inner) (sized P l) q i o)
         (record { left_is = all; answer_is = D.answer })
       where
         all : lent (recorder w u f) [] (page' ∷ seen' ∷ []) ≡ (back G given inner).left

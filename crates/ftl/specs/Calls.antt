@@ -1,5 +1,5 @@
 -- What the inner calls ask, and what they answer and leave: G is the geometry, t and t' the tables before and after, d and d' what else is lent.
-use Rattle.std.specs.Prelude.{ℕ, ◌+◌, ◌*◌, ◌≤◌, ◌<◌, ◌≡◌, List, length, Ok}
+use Rattle.std.specs.Prelude.{ℕ, ◌+◌, ◌*◌, ◌≤◌, ◌<◌, ◌≡◌, List, [], ◌∷◌, length, Ok}
 use Rattle.model.specs.Lists.{zeros}
 use Rattle.model.specs.declared.Geometry.{Geometry}
 use Rattle.model.specs.Numbers.{Answer, Good}
@@ -7,6 +7,7 @@ use Rattle.model.specs.Tables.{Tables, pages}
 use Rattle.model.specs.Sound.{Sound}
 use Rattle.model.specs.Device.{Flash, flash, State, state, Out}
 use Rattle.model.specs.Contract.{Done}
+use Rattle.model.specs.Entry.{Lent, lent, recorder}
 use Rattle.model.specs.PageWrite.{write_page}
 use Rattle.model.specs.PageGc.{collect, collect_more, collect_threshold}
 use Rattle.model.specs.Checkpoint.{opened, reason_of, restored_by}
@@ -36,6 +37,10 @@ flash_in d c = flash d.bytes.now d.marks.now c d.fuse.now
 
 abbrev pub flash_with : Collecting → Flash
 flash_with d = flash d.bytes.now d.marks.now d.counts.now d.fuse.now
+
+-- all that a collection is lent, with the words w and the use marks u
+abbrev pub lent_with : Collecting → (w u seen : List ℕ) → Lent
+lent_with d w u seen = lent (recorder w u (flash_with d)) [] (d.page.now ∷ seen ∷ d.order.now ∷ [])
 
 pub record MayWrite (G : Geometry) (t : Tables) (d : Writing) : Type 0 where
   pub good : Good G
@@ -71,13 +76,17 @@ passes_of G bad passes.One st = collect G bad st
 passes_of G bad (passes.List m) st = collect_more G bad m 0 st
 passes_of G bad (passes.Threshold threshold m) st = collect_threshold G bad threshold m st
 
-pub record Collected (G : Geometry) (t : Tables) (d : Collecting) (r : Answer) (t' : Tables) (d' : Collecting) : Type 0 where
+-- what is lent through a deed stays the caller's
+pub record Same (d d' : Collecting) : Type 0 where
   pub bytes : d'.bytes.ghost_name ≡ d.bytes.ghost_name
   pub marks : d'.marks.ghost_name ≡ d.marks.ghost_name
   pub fuse : d'.fuse.ghost_name ≡ d.fuse.ghost_name
   pub counts : d'.counts.ghost_name ≡ d.counts.ghost_name
   pub page : d'.page.ghost_name ≡ d.page.ghost_name
   pub order : d'.order.ghost_name ≡ d.order.ghost_name
+
+pub record Collected (G : Geometry) (t : Tables) (d : Collecting) (r : Answer) (t' : Tables) (d' : Collecting) : Type 0 where
+  pub same : Same d d'
   pub done : Done (passes_of G d.bad.now d.passes (state t (flash_with d))) r (state t' (flash_with d'))
   pub page_clean : d'.page.now ≡ zeros G.s
   pub order_clean : d'.order.now ≡ zeros G.n

@@ -97,21 +97,41 @@ impl Deed for Collecting<'_> {
     ghost does = { λ G t d r t' d'. Collected G t d r t' d' };
 
     fn run(&mut self, t: &mut TablesMut<'_>) -> Answer {
-        let mut chips = FlashMut {
+        let mut flash = FlashMut {
             geo: t.geo,
             bytes: self.bytes,
             marks: self.marks,
             fuse: self.fuse,
         };
-        let flash = &mut chips;
-        let counts = &mut *self.counts;
-        let page = &mut *self.page;
-        let order = &mut *self.order;
         match self.passes {
-            Passes::One => page_gc::collect(t, flash, counts, self.bad, page, order),
-            Passes::List(m) => page_gc::collect_list(t, flash, counts, m, self.bad, page, order),
+            Passes::One => page_gc::collect(
+                t,
+                &mut flash,
+                self.counts,
+                self.bad,
+                self.page,
+                self.order,
+            ),
+            Passes::List(m) => page_gc::collect_list(
+                t,
+                &mut flash,
+                self.counts,
+                m,
+                self.bad,
+                self.page,
+                self.order,
+            ),
             Passes::Threshold(threshold, m) => {
-                page_gc::collect_threshold(t, flash, counts, threshold, m, self.bad, page, order)
+                page_gc::collect_threshold(
+                    t,
+                    &mut flash,
+                    self.counts,
+                    threshold,
+                    m,
+                    self.bad,
+                    self.page,
+                    self.order,
+                )
             }
         }
     }

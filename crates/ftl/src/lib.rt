@@ -12,8 +12,8 @@ ghost use Rattle.model.specs.Device.{flash, state};
 ghost use Rattle.model.specs.Checkpoint.{file_size};
 ghost use Rattle.model.specs.Entry.{recorder, lent, no_flash, Answered, tables_fit, clean, all_fits, page_scratch, seen_scratch};
 ghost use Rattle.model.specs.Entry.{formatting, opening, read, write, collecting, collection, list_collection, threshold_collection, encoding, restoring};
-ghost use Rattle.ftl.specs.Tests.{tested};
-ghost use Rattle.ftl.specs.Calls.{passes_of};
+ghost use Rattle.ftl.specs.Tests.{tested, within};
+ghost use Rattle.ftl.specs.Calls.{Same, flash_with, lent_with, passes_of};
 
 use device::FlashMut;
 use model::{Answer, Cause, Geometry, LogicalPage, PhysicalAddress, Queueing};
@@ -79,11 +79,27 @@ fn show(geo: Geometry, a: PhysicalAddress, off: usize, len: usize, bytes: &[u8],
     out[..len].copy_from_slice(&bytes[start..start + len]);
 }
 
+// The logical page of a sector and the offset in it, where the length lies within that page.
+fn within_page(geo: Geometry, sector: usize, len: usize) -> Result<(LogicalPage, usize), Cause>
+    requires { Good geo }
+    ensures { result ≡ within geo sector len }
+{
+    let l = sector / geo.s;
+    if l >= geo.e {
+        return Err(Cause::Wrong);
+    }
+    let off = sector % geo.s;
+    if len > geo.s - off {
+        return Err(Cause::Wrong);
+    }
+    Ok((LogicalPage(l), off))
+}
+
 // "bytes at the offset of the mapped page"; bytes of the buffer beyond the length stay.
 pub fn read(
     geo: Geometry,
     sector: usize,
-    length: usize,
+    len: usize,
     tab: &[u32],
     used: &[u8],
     bytes: &[u8],
@@ -91,33 +107,26 @@ pub fn read(
     seen: &mut [u8],
 ) -> Answer
     ensures answered { Answered
-        (read geo sector length (lent (recorder tab.now used.now (flash bytes.now [] [] 0)) out.old (seen.old ∷ [])))
+        (read geo sector len (lent (recorder tab.now used.now (flash bytes.now [] [] 0)) out.old (seen.old ∷ [])))
         (lent (recorder tab.now used.now (flash bytes.now [] [] 0)) out.new (seen.new ∷ [])) result }
     ensures countable { Countable result }
 {
     if !sound::good(geo) {
         return Err(Cause::Wrong);
     }
-    if !guard::read_fits(geo, length, tab, used, bytes, out, seen) {
+    if !guard::read_fits(geo, len, tab, used, bytes, out, seen) {
         return Err(Cause::Wrong);
     }
     if !sound::sound(geo, tab, used, seen) {
         return Err(Cause::Unsound);
     }
-    let l = sector / geo.s;
-    if l >= geo.e {
-        return Err(Cause::Wrong);
-    }
-    let off = sector % geo.s;
-    if length > geo.s - off {
-        return Err(Cause::Wrong);
-    }
-    let a = PhysicalAddress(tab[l]);
+    let (l, off) = within_page(geo, sector, len)?;
+    let a = PhysicalAddress(tab[l.0]);
     if a.is_empty() {
         return Err(Cause::Unmapped);
     }
-    show(geo, a, off, length, bytes, out);
-    Ok(length)
+    show(geo, a, off, len, bytes, out);
+    Ok(len)
 }
 
 // Bytes at a sector, within one page.
@@ -154,19 +163,12 @@ pub fn write(
     if !sound::sound(geo, tab, used, seen) {
         return Err(Cause::Unsound);
     }
-    let l = sector / geo.s;
-    if l >= geo.e {
-        return Err(Cause::Wrong);
-    }
-    let off = sector % geo.s;
-    if len > geo.s - off {
-        return Err(Cause::Wrong);
-    }
+    let (l, off) = within_page(geo, sector, len)?;
     let mut deed = Writing {
         bytes,
         marks,
         fuse,
-        l: LogicalPage(l),
+        l,
         off,
         xs: &xs[..len],
         bad,
@@ -178,29 +180,33 @@ pub fn write(
 // What a collection tests: geometry, sizes and scratch, and soundness.
 fn collection_tests(
     geo: Geometry,
-    bad: &[u8],
     tab: &[u32],
     used: &[u8],
-    bytes: &[u8],
-    marks: &[u8],
-    counts: &[u32],
-    page: &[u8],
     seen: &mut [u8],
-    order: &[u32],
+    deed: &Collecting<'_>,
 ) -> Result<(), Cause>
-    ensures tested { (fuse : ℕ) → result ≡ tested
-        (all_fits geo bad.now (page_scratch geo ∷ seen_scratch geo ∷ geo.n ∷ [])
-        (lent (recorder tab.now used.now (flash bytes.now marks.now counts.now fuse)) [] (page.now ∷ seen.old ∷ order.now ∷ [])))
+    ensures tested { result ≡ tested
+        (all_fits geo deed.now.bad.now (page_scratch geo ∷ seen_scratch geo ∷ geo.n ∷ []) (lent_with deed.now tab.now used.now seen.old))
         (soundb geo (view geo tab.now used.now)) }
     ensures seen_unchanged { seen.new ≡ seen.old }
 {
     if !sound::good(geo) {
         return Err(Cause::Wrong);
     }
-    if !guard::all_fit(geo, bad, tab, used, bytes, marks, counts, page, seen) {
+    if !guard::all_fit(
+        geo,
+        deed.bad,
+        tab,
+        used,
+        deed.bytes,
+        deed.marks,
+        deed.counts,
+        deed.page,
+        seen,
+    ) {
         return Err(Cause::Wrong);
     }
-    if !guard::clean_words(order, geo.n) {
+    if !guard::clean_words(deed.order, geo.n) {
         return Err(Cause::Wrong);
     }
     if !sound::sound(geo, tab, used, seen) {
@@ -212,37 +218,20 @@ fn collection_tests(
 // The collections, by the passes that they make.
 fn collect_by(
     geo: Geometry,
-    passes: Passes,
-    bad: &[u8],
     tab: &mut [u32],
     used: &mut [u8],
-    bytes: &mut [u8],
-    marks: &mut [u8],
-    counts: &mut [u32],
-    fuse: &mut u64,
-    page: &mut [u8],
     seen: &mut [u8],
-    order: &mut [u32],
+    deed: &mut Collecting<'_>,
 ) -> Answer
     ensures answered { Answered
-        (collecting geo bad.now
-        (lent (recorder tab.old used.old (flash bytes.old marks.old counts.old fuse.old)) [] (page.old ∷ seen.old ∷ order.old ∷ []))
-        (passes_of geo bad.now passes (state (view geo tab.old used.old) (flash bytes.old marks.old counts.old fuse.old))))
-        (lent (recorder tab.new used.new (flash bytes.new marks.new counts.new fuse.new)) [] (page.new ∷ seen.new ∷ order.new ∷ [])) result }
+        (collecting geo deed.old.bad.now (lent_with deed.old tab.old used.old seen.old)
+        (passes_of geo deed.old.bad.now deed.old.passes (state (view geo tab.old used.old) (flash_with deed.old))))
+        (lent_with deed.new tab.new used.new seen.new) result }
+    ensures same { Same deed.old deed.new }
     ensures countable { Countable result }
 {
-    collection_tests(geo, bad, tab, used, bytes, marks, counts, page, seen, order)?;
-    let mut deed = Collecting {
-        passes,
-        bytes,
-        marks,
-        fuse,
-        counts,
-        bad,
-        page,
-        order,
-    };
-    on_packed(geo, tab, used, &mut deed)
+    collection_tests(geo, tab, used, seen, deed)?;
+    on_packed(geo, tab, used, deed)
 }
 
 // One collection.
@@ -265,20 +254,17 @@ pub fn collect(
         (lent (recorder tab.new used.new (flash bytes.new marks.new counts.new fuse.new)) [] (page.new ∷ seen.new ∷ order.new ∷ [])) result }
     ensures countable { Countable result }
 {
-    collect_by(
-        geo,
-        Passes::One,
-        bad,
-        tab,
-        used,
+    let mut deed = Collecting {
+        passes: Passes::One,
         bytes,
         marks,
-        counts,
         fuse,
+        counts,
+        bad,
         page,
-        seen,
         order,
-    )
+    };
+    collect_by(geo, tab, used, seen, &mut deed)
 }
 
 // Collections from the list, at most m of them counted.
@@ -302,20 +288,17 @@ pub fn collect_list(
         (lent (recorder tab.new used.new (flash bytes.new marks.new counts.new fuse.new)) [] (page.new ∷ seen.new ∷ order.new ∷ [])) result }
     ensures countable { Countable result }
 {
-    collect_by(
-        geo,
-        Passes::List(m),
-        bad,
-        tab,
-        used,
+    let mut deed = Collecting {
+        passes: Passes::List(m),
         bytes,
         marks,
-        counts,
         fuse,
+        counts,
+        bad,
         page,
-        seen,
         order,
-    )
+    };
+    collect_by(geo, tab, used, seen, &mut deed)
 }
 
 // Collections from the list, unless more pages are free than the threshold.
@@ -340,20 +323,17 @@ pub fn collect_threshold(
         (lent (recorder tab.new used.new (flash bytes.new marks.new counts.new fuse.new)) [] (page.new ∷ seen.new ∷ order.new ∷ [])) result }
     ensures countable { Countable result }
 {
-    collect_by(
-        geo,
-        Passes::Threshold(threshold, m),
-        bad,
-        tab,
-        used,
+    let mut deed = Collecting {
+        passes: Passes::Threshold(threshold, m),
         bytes,
         marks,
-        counts,
         fuse,
+        counts,
+        bad,
         page,
-        seen,
         order,
-    )
+    };
+    collect_by(geo, tab, used, seen, &mut deed)
 }
 
 // What encoding tests beside the geometry: the tables, the buffer, and scratch for the soundness test.

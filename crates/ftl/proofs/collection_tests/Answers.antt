@@ -1,6 +1,6 @@
 -- `collection_tests` meets its contract: each test that fails, and all that pass.
 use Rattle.std.proofs.Common.{sym, ◌∙◌}
-use Rattle.model.specs.Device.{flash}
+use Rattle.ftl.specs.Calls.{flash_with}
 use Rattle.model.specs.Entry.{recorder}
 use Rattle.model.proofs.Guard.{good_test}
 use Rattle.guard.proofs.Rows.{told}
@@ -9,58 +9,58 @@ use Rattle.ftl.proofs.Collecting.{wrong_geometry, wrong_size, wrong_order, told_
 use Rattle.ftl.proofs.collection_tests.Goals as goal
 
 pub returns-then-not-good-clause-tested : goal.returns-then-not-good-clause-tested
-returns-then-not-good-clause-tested c = λ fuse.
+returns-then-not-good-clause-tested c =
     let a = c.args in
-    wrong_geometry a.geo a.bad.now (recorder a.tab.now a.used.now (flash a.bytes.now a.marks.now a.counts.now fuse)) a.page.now a.seen.now a.order.now
+    wrong_geometry a.geo a.deed.now.bad.now (recorder a.tab.now a.used.now (flash_with a.deed.now)) a.deed.now.page.now a.seen.now a.deed.now.order.now
     (told c.good.ensures c.if-not-good.true)
 
 pub all_fit-requires : goal.all_fit-requires
 all_fit-requires c = good_test _ (told c.good.ensures c.if-not-good.false)
 
 pub returns-then-not-all_fit-clause-tested : goal.returns-then-not-all_fit-clause-tested
-returns-then-not-all_fit-clause-tested c = λ fuse.
+returns-then-not-all_fit-clause-tested c =
     let a = c.args in
-    wrong_size a.geo a.bad.now (recorder a.tab.now a.used.now (flash a.bytes.now a.marks.now a.counts.now fuse)) a.page.now a.seen.now a.order.now
+    wrong_size a.geo a.deed.now.bad.now (recorder a.tab.now a.used.now (flash_with a.deed.now)) a.deed.now.page.now a.seen.now a.deed.now.order.now
     (told c.good.ensures c.if-not-good.false) (told c.all_fit.ensures c.if-not-all_fit.true)
 
 pub returns-then-not-clean_words-clause-tested : goal.returns-then-not-clean_words-clause-tested
-returns-then-not-clean_words-clause-tested c = λ fuse.
+returns-then-not-clean_words-clause-tested c =
     let a = c.args in
-    wrong_order a.geo a.bad.now (recorder a.tab.now a.used.now (flash a.bytes.now a.marks.now a.counts.now fuse)) a.page.now a.seen.now a.order.now
+    wrong_order a.geo a.deed.now.bad.now (recorder a.tab.now a.used.now (flash_with a.deed.now)) a.deed.now.page.now a.seen.now a.deed.now.order.now
     (told c.good.ensures c.if-not-good.false) (told c.all_fit.ensures c.if-not-all_fit.false)
     (told c.clean_words.ensures c.if-not-clean_words.true)
 
 pub sound-requires : goal.sound-requires
 sound-requires c =
     let a = c.args in
-    let x = recorder a.tab.now a.used.now (flash a.bytes.now a.marks.now a.counts.now 0) in
-    let P = passed a.geo a.bad.now x a.page.now a.seen.now (told c.good.ensures c.if-not-good.false) (told c.all_fit.ensures c.if-not-all_fit.false) in
+    let x = recorder a.tab.now a.used.now (flash_with a.deed.now) in
+    let P = passed a.geo a.deed.now.bad.now x a.deed.now.page.now a.seen.now (told c.good.ensures c.if-not-good.false) (told c.all_fit.ensures c.if-not-all_fit.false) in
     record { good = P.good; tab_len = (P.words_size, P.used_size, P.seen_clean) }
 
 pub returns-then-not-sound-clause-tested : goal.returns-then-not-sound-clause-tested
-returns-then-not-sound-clause-tested c = λ fuse.
+returns-then-not-sound-clause-tested c =
     let a = c.args in
-    told_sound a.geo a.bad.now (recorder a.tab.now a.used.now (flash a.bytes.now a.marks.now a.counts.now fuse)) a.page.now a.seen.now a.order.now
+    told_sound a.geo a.deed.now.bad.now (recorder a.tab.now a.used.now (flash_with a.deed.now)) a.deed.now.page.now a.seen.now a.deed.now.order.now
     (told c.good.ensures c.if-not-good.false) (told c.all_fit.ensures c.if-not-all_fit.false)
     (told c.clean_words.ensures c.if-not-clean_words.false) _ (told c.sound.ensures.value c.if-not-sound.true)
 
 pub returns-then-not-sound-clause-seen_unchanged : goal.returns-then-not-sound-clause-seen_unchanged
 returns-then-not-sound-clause-seen_unchanged c =
     let a = c.args in
-    let x = recorder a.tab.now a.used.now (flash a.bytes.now a.marks.now a.counts.now 0) in
-    let P = passed a.geo a.bad.now x a.page.now a.seen.now (told c.good.ensures c.if-not-good.false) (told c.all_fit.ensures c.if-not-all_fit.false) in
+    let x = recorder a.tab.now a.used.now (flash_with a.deed.now) in
+    let P = passed a.geo a.deed.now.bad.now x a.deed.now.page.now a.seen.now (told c.good.ensures c.if-not-good.false) (told c.all_fit.ensures c.if-not-all_fit.false) in
     c.sound.ensures.seen_after ∙ sym P.seen_clean
 
 pub returns-clause-tested : goal.returns-clause-tested
-returns-clause-tested c = λ fuse.
+returns-clause-tested c =
     let a = c.args in
-    told_sound a.geo a.bad.now (recorder a.tab.now a.used.now (flash a.bytes.now a.marks.now a.counts.now fuse)) a.page.now a.seen.now a.order.now
+    told_sound a.geo a.deed.now.bad.now (recorder a.tab.now a.used.now (flash_with a.deed.now)) a.deed.now.page.now a.seen.now a.deed.now.order.now
     (told c.good.ensures c.if-not-good.false) (told c.all_fit.ensures c.if-not-all_fit.false)
     (told c.clean_words.ensures c.if-not-clean_words.false) _ (told c.sound.ensures.value c.if-not-sound.false)
 
 pub returns-clause-seen_unchanged : goal.returns-clause-seen_unchanged
 returns-clause-seen_unchanged c =
     let a = c.args in
-    let x = recorder a.tab.now a.used.now (flash a.bytes.now a.marks.now a.counts.now 0) in
-    let P = passed a.geo a.bad.now x a.page.now a.seen.now (told c.good.ensures c.if-not-good.false) (told c.all_fit.ensures c.if-not-all_fit.false) in
+    let x = recorder a.tab.now a.used.now (flash_with a.deed.now) in
+    let P = passed a.geo a.deed.now.bad.now x a.deed.now.page.now a.seen.now (told c.good.ensures c.if-not-good.false) (told c.all_fit.ensures c.if-not-all_fit.false) in
     c.sound.ensures.seen_after ∙ sym P.seen_clean

@@ -1,6 +1,7 @@
 -- `write` meets its contract: each test that fails, then the write.
+use Rattle.std.proofs.lemmas.Result.{err_from_is_err_and}
 use Rattle.std.proofs.Common.{arith, rules, subst}
-use borrow.Author.Tests.{le-leb, lt-ltb, lt-leb, le-ltb}
+use borrow.Author.Tests.{le-leb, lt-leb}
 use Rattle.model.specs.Device.{Flash, flash, state}
 use Rattle.model.specs.Tables.{view}
 use Rattle.model.specs.Contract.{Done}
@@ -8,7 +9,8 @@ use Rattle.model.specs.Entry.{recorder}
 use Rattle.model.proofs.Guard.{good_test}
 use Rattle.guard.proofs.Rows.{told}
 use Rattle.ftl.proofs.Passing.{passed, held}
-use Rattle.ftl.proofs.Writing.{offset_lt, fits_in, runs_over, sent_fits, inner, answer_fits, wrong_geometry, wrong_size, too_short, unsound, outside, overrun, done}
+use Rattle.ftl.proofs.Places.{placed, misplaced}
+use Rattle.ftl.proofs.Writing.{sent_fits, inner, answer_fits, wrong_geometry, wrong_size, too_short, unsound, refused_place, done}
 use Rattle.ftl.proofs.write.Goals as goal
 
 pub returns-then-not-good-clause-answered : goal.returns-then-not-good-clause-answered
@@ -39,26 +41,21 @@ returns-then-not-sound-clause-answered c =
     unsound _ _ _ _ _ _ _ _ (passed _ _ _ _ _ (told c.good.ensures c.if-not-good.false) (told c.all_fit.ensures c.if-not-all_fit.false))
     (le-leb _ _ c.if-xs-len.false) _ c.sound.ensures.seen_after (told c.sound.ensures.value c.if-not-sound.true)
 
-pub nonzero_div-l : goal.nonzero_div-l
-nonzero_div-l c = omega (arith, (good_test _ (told c.good.ensures c.if-not-good.false)).s≥)
+pub within_page-requires : goal.within_page-requires
+within_page-requires c = good_test _ (told c.good.ensures c.if-not-good.false)
 
-pub returns-then-l-geo-clause-answered : goal.returns-then-l-geo-clause-answered
-returns-then-l-geo-clause-answered c =
-    outside _ _ _ _ _ _ _ _ (passed _ _ _ _ _ (told c.good.ensures c.if-not-good.false) (told c.all_fit.ensures c.if-not-all_fit.false))
-    (le-leb _ _ c.if-xs-len.false) _ c.sound.ensures.seen_after (told c.sound.ensures.value c.if-not-sound.false) (le-ltb _ _ c.if-l-geo.true)
+pub returns-in_err-l-clause-answered : goal.returns-in_err-l-clause-answered
+returns-in_err-l-clause-answered c =
+    let p = err_from_is_err_and c.from_residual.result c.from_residual.ensures.1 in
+    let m = misplaced c.args.geo c.args.sector c.args.len _ c.in_err-l.ensures in
+    rw (p.1, p.2, m.1)
+    (refused_place _ _ _ _ _ _ _ _ (passed _ _ _ _ _ (told c.good.ensures c.if-not-good.false) (told c.all_fit.ensures c.if-not-all_fit.false))
+    (le-leb _ _ c.if-xs-len.false) _ c.sound.ensures.seen_after (told c.sound.ensures.value c.if-not-sound.false) m.0)
 
-pub nonzero_rem-off : goal.nonzero_rem-off
-nonzero_rem-off c = omega (arith, (good_test _ (told c.good.ensures c.if-not-good.false)).s≥)
-
-pub overflow_sub-geo : goal.overflow_sub-geo
-overflow_sub-geo c = omega (arith, offset_lt c.args.geo c.args.sector (good_test _ (told c.good.ensures c.if-not-good.false)).s≥)
-
-pub returns-then-len-geo-clause-answered : goal.returns-then-len-geo-clause-answered
-returns-then-len-geo-clause-answered c =
-    let d = offset_lt c.args.geo c.args.sector (omega (arith, (good_test _ (told c.good.ensures c.if-not-good.false)).s≥)) in
-    overrun _ _ _ _ _ _ _ _ (passed _ _ _ _ _ (told c.good.ensures c.if-not-good.false) (told c.all_fit.ensures c.if-not-all_fit.false))
-    (le-leb _ _ c.if-xs-len.false) _ c.sound.ensures.seen_after (told c.sound.ensures.value c.if-not-sound.false) (lt-ltb _ _ c.if-l-geo.false)
-    (runs_over _ _ _ d c.if-len-geo.true)
+pub returns-in_err-l-clause-countable : goal.returns-in_err-l-clause-countable
+returns-in_err-l-clause-countable c =
+    let p = err_from_is_err_and c.from_residual.result c.from_residual.ensures.1 in
+    rw (p.1, p.2, (misplaced c.args.geo c.args.sector c.args.len _ c.in_err-l.ensures).1) tt
 
 pub on_packed-requires-clause-good : goal.on_packed-requires-clause-good
 on_packed-requires-clause-good c = good_test _ (told c.good.ensures c.if-not-good.false)
@@ -77,8 +74,7 @@ on_packed-requires-clause-may c =
     let x = recorder a.tab.now a.used.now (flash a.bytes.now a.marks.now a.counts.now a.fuse.now) in
     let P =
     passed a.geo a.bad.now x a.page.now a.seen.now (told c.good.ensures c.if-not-good.false) (told c.all_fit.ensures c.if-not-all_fit.false) in
-    let d = offset_lt a.geo a.sector (omega (arith, P.good.s≥)) in
-    let r = fits_in _ _ _ d c.if-len-geo.false in
+    let L = placed a.geo a.sector a.len _ c.in_ok-l.ensures in
     record {
       good = P.good;
       bytes_len = P.ready.bytes_size;
@@ -86,8 +82,8 @@ on_packed-requires-clause-may c =
       sound = (held _ _ x _ a.seen.now P (told c.sound.ensures.value c.if-not-sound.false)).tables.sound;
       bad_len = P.ready.bad_size;
       page = P.ready.page_clean;
-      inside = c.if-l-geo.false;
-      within = sent_fits _ a.len _ a.xs.now c.if-xs-len.false r;
+      inside = L.page<;
+      within = rw L.offset_is (sent_fits _ a.len _ a.xs.now c.if-xs-len.false L.room);
     }
 
 pub returns-clause-answered : goal.returns-clause-answered
@@ -96,15 +92,14 @@ returns-clause-answered c =
     let x = recorder a.tab.now a.used.now (flash a.bytes.now a.marks.now a.counts.now a.fuse.now) in
     let P =
     passed a.geo a.bad.now x a.page.now a.seen.now (told c.good.ensures c.if-not-good.false) (told c.all_fit.ensures c.if-not-all_fit.false) in
-    let d = offset_lt a.geo a.sector (omega (arith, P.good.s≥)) in
-    let r = fits_in _ _ _ d c.if-len-geo.false in
+    let L = placed a.geo a.sector a.len _ c.in_ok-l.ensures in
     let E = c.on_packed.ensures in
-    done _ _ _ _ _ _ _ _ P (le-leb _ _ c.if-xs-len.false) _ c.sound.ensures.seen_after (told c.sound.ensures.value c.if-not-sound.false) (lt-ltb _ _ c.if-l-geo.false) r
+    done _ _ _ _ _ _ _ _ P (le-leb _ _ c.if-xs-len.false) _ c.sound.ensures.seen_after (told c.sound.ensures.value c.if-not-sound.false) L.inside L.room
     _ _ _ _ c.on_packed.auto.tab (search rules) _
     (subst
     (λ (f : Flash). Done (inner a.geo a.bad.now x a.page.now a.seen.now a.sector a.len a.xs.now) c.on_packed.result
     (state (view a.geo c.on_packed.new.tab c.on_packed.new.used) f))
-    (search rules) (E.done a.counts.now))
+    (search rules) (rw (L.page_is, L.offset_is) at (E.done a.counts.now)))
 
 pub returns-clause-countable : goal.returns-clause-countable
 returns-clause-countable c =
@@ -112,7 +107,6 @@ returns-clause-countable c =
     let x = recorder a.tab.now a.used.now (flash a.bytes.now a.marks.now a.counts.now a.fuse.now) in
     let P =
     passed a.geo a.bad.now x a.page.now a.seen.now (told c.good.ensures c.if-not-good.false) (told c.all_fit.ensures c.if-not-all_fit.false) in
-    let d = offset_lt a.geo a.sector (omega (arith, P.good.s≥)) in
-    let r = fits_in _ _ _ d c.if-len-geo.false in
-    answer_fits a.geo a.bad.now x a.page.now a.seen.now a.sector a.len a.xs.now _ _ (c.on_packed.ensures.done a.counts.now)
-    (sent_fits _ a.len _ a.xs.now c.if-xs-len.false r) (omega (arith, P.good.s≤))
+    let L = placed a.geo a.sector a.len _ c.in_ok-l.ensures in
+    answer_fits a.geo a.bad.now x a.page.now a.seen.now a.sector a.len a.xs.now _ _ (rw (L.page_is, L.offset_is) at (c.on_packed.ensures.done a.counts.now))
+    (sent_fits _ a.len _ a.xs.now c.if-xs-len.false L.room) (omega (arith, P.good.s≤))
