@@ -1,7 +1,7 @@
 // Replays stored cases on the public entries, and compares each answer, and a CRC-32 over all that is lent, with the oracle's.
 #![tactic(auto)]
 
-ghost use Rattle.std.specs.Prelude.{◌≡◌, ◌≤◌, length};
+ghost use Rattle.std.specs.Prelude.{◌≡◌, ◌≤◌};
 ghost use Rattle.crc32.specs.Crc32.{crc32, after};
 ghost use Rattle.guard.specs.Countable.{Countable};
 ghost use Rattle.model.specs.Checkpoint.{long, words};
@@ -9,10 +9,9 @@ ghost use Rattle.replay.specs.Lent.{everything};
 
 use model::{Answer, Geometry, Numbers, Queueing};
 use std::fmt;
-use std::io::Read;
 
 // What a call comes to: whether it is refused, its answer without sign, and the CRC of all that is lent after it.
-// A call is refused by 1 or not by 0; of a stored one `refused` is any number.
+// A call is refused by 1 or not by 0; a stored sign is any number, and must print and differ as it is, so `refused` is no bool.
 #[derive(Clone, Copy, PartialEq, Eq)]
 struct Outcome {
     refused: usize,
@@ -61,20 +60,18 @@ struct Call {
     expected: Outcome,
 }
 
-// A step of a case. A part is named by its number, its place in `ROOMS`: whether there is one is tested when the step is done, and a step behind a
-// difference is passed over.
+// A change of a part of a case's memory: how much of it is lent, or a value at a place.
+#[derive(Clone, Copy)]
+enum Change {
+    Length(usize),
+    Poke { place: usize, value: usize },
+}
+
+// A step of a case. A part is named by its number: whether there is one is tested when the step is done, and a step behind a difference is passed over.
 #[derive(Clone, Copy)]
 enum Step {
     End,
-    Length {
-        part: usize,
-        len: usize,
-    },
-    Poke {
-        part: usize,
-        place: usize,
-        value: usize,
-    },
+    Change { part: usize, change: Change },
     Fuse(u64),
     Call(Call),
 }
@@ -125,11 +122,13 @@ impl Step {
             0 => Some((Step::End, first)),
             1 => {
                 let ([part, len], next) = row::<2>(xs, first)?;
-                Some((Step::Length { part, len }, next))
+                let change = Change::Length(len);
+                Some((Step::Change { part, change }, next))
             }
             2 => {
                 let ([part, place, value], next) = row::<3>(xs, first)?;
-                Some((Step::Poke { part, place, value }, next))
+                let change = Change::Poke { place, value };
+                Some((Step::Change { part, change }, next))
             }
             3 => {
                 let (fuse, next) = numbers::number(xs, first)?;
@@ -148,7 +147,7 @@ impl Step {
     }
 }
 
-// The place after the case's end. A step has a byte at least.
+// The place after the case's end. Bounded by the bytes, here and below: a step and a case have one at least, and a `while` would need that as a proof.
 fn skip(xs: &[u8], first: usize) -> Option<usize> {
     let mut at = first;
     for _ in 0..xs.len() {
@@ -165,11 +164,8 @@ fn skip(xs: &[u8], first: usize) -> Option<usize> {
 fn after_words(state: u32, ws: &[u32]) -> u32
     ensures { result ≡ after state (words ws.now) }
 {
-    let mut crc = state;
-    for w in ws {
-        crc = crc32::update(crc, &w.to_le_bytes());
-    }
-    crc
+    ws.iter()
+        .fold(state, |crc, w| crc32::update(crc, &w.to_le_bytes()))
 }
 
 fn after_fuse(state: u32, fuse: u64) -> u32
@@ -259,117 +255,124 @@ impl Lent<'_> {
     }
 }
 
-// How long each part of a case's memory is, by the number that a step names it with.
-static ROOMS: [usize; 11] = [2048, 512, 16384, 512, 256, 256, 4096, 512, 512, 256, 512];
-
-// The memory of a case: its parts, how much of each is lent, and the fuse.
+// A part of a case's memory: its room, of which the first `len` are lent, never more than there are.
 #[derive(Drop)]
-struct Memory {
-    lens: [usize; 11],
-    tab: [u32; 2048],
-    used: [u8; 512],
-    bytes: [u8; 16384],
-    marks: [u8; 512],
-    counts: [u32; 256],
-    fuse: u64,
-    bad: [u8; 256],
-    buffer: [u8; 4096],
-    page: [u8; 512],
-    seen: [u8; 512],
-    order: [u32; 256],
-    taken: [u8; 512],
+struct Part<T, const N: usize> {
+    room: [T; N],
+    len: usize,
+    ghost within: { len ≤ N },
 }
 
-// The first of a part, as long as the case says.
-fn front<T>(part: &mut [T], len: usize) -> &mut [T] {
-    let len = len.min(part.len());
-    &mut part[..len]
-}
-
-// The value at a place of a part, where there is that place and its type holds the value.
-fn put<T: TryFrom<usize> + Drop>(part: &mut [T], place: usize, value: usize) -> Option<()>
+impl<T: Copy + Default + TryFrom<usize>, const N: usize> Part<T, N>
 where
     T::Error: Drop,
 {
-    *part.get_mut(place)? = T::try_from(value).ok()?;
-    Some(())
-}
-
-impl Memory {
-    // Zeroed, and a fuse without end.
-    fn new() -> Memory {
-        Memory {
-            lens: [0; 11],
-            tab: [0; 2048],
-            used: [0; 512],
-            bytes: [0; 16384],
-            marks: [0; 512],
-            counts: [0; 256],
-            fuse: u64::MAX,
-            bad: [0; 256],
-            buffer: [0; 4096],
-            page: [0; 512],
-            seen: [0; 512],
-            order: [0; 256],
-            taken: [0; 512],
+    // Zeroed, and nothing of it lent.
+    fn new() -> Part<T, N> {
+        Part {
+            room: [T::default(); N],
+            len: 0,
         }
     }
 
-    fn set_length(&mut self, part: usize, len: usize) -> Option<()> {
-        if len > *ROOMS.get(part)? {
+    fn set_length(&mut self, len: usize) -> Option<()> {
+        if len > N {
             return None;
         }
-        *self.lens.get_mut(part)? = len;
+        self.len = len;
         Some(())
     }
 
-    fn poke(&mut self, part: usize, place: usize, value: usize) -> Option<()> {
+    // The value at a place, where there is that place and its type holds the value.
+    fn poke(&mut self, place: usize, value: usize) -> Option<()> {
+        *self.room.get_mut(place)? = T::try_from(value).ok()?;
+        Some(())
+    }
+
+    // What a step makes of the part, where it can.
+    fn change(&mut self, change: Change) -> Option<()> {
+        match change {
+            Change::Length(len) => self.set_length(len),
+            Change::Poke { place, value } => self.poke(place, value),
+        }
+    }
+
+    fn lend(&mut self) -> &mut [T] {
+        let len = self.len;
+        let room = &mut self.room;
+        &mut room[..len]
+    }
+}
+
+// The memory of a case: its parts, each with how much of it is lent, and the fuse.
+#[derive(Drop)]
+struct Memory {
+    tab: Part<u32, 2048>,
+    used: Part<u8, 512>,
+    bytes: Part<u8, 16384>,
+    marks: Part<u8, 512>,
+    counts: Part<u32, 256>,
+    fuse: u64,
+    bad: Part<u8, 256>,
+    buffer: Part<u8, 4096>,
+    page: Part<u8, 512>,
+    seen: Part<u8, 512>,
+    order: Part<u32, 256>,
+    taken: Part<u8, 512>,
+}
+
+impl Memory {
+    // Zeroed, nothing of it lent, and a fuse without end.
+    fn new() -> Memory {
+        Memory {
+            tab: Part::new(),
+            used: Part::new(),
+            bytes: Part::new(),
+            marks: Part::new(),
+            counts: Part::new(),
+            fuse: u64::MAX,
+            bad: Part::new(),
+            buffer: Part::new(),
+            page: Part::new(),
+            seen: Part::new(),
+            order: Part::new(),
+            taken: Part::new(),
+        }
+    }
+
+    // The format names parts by numbers, and here they end.
+    fn change(&mut self, part: usize, change: Change) -> Option<()> {
         match part {
-            0 => put(&mut self.tab, place, value),
-            1 => put(&mut self.used, place, value),
-            2 => put(&mut self.bytes, place, value),
-            3 => put(&mut self.marks, place, value),
-            4 => put(&mut self.counts, place, value),
-            5 => put(&mut self.bad, place, value),
-            6 => put(&mut self.buffer, place, value),
-            7 => put(&mut self.page, place, value),
-            8 => put(&mut self.seen, place, value),
-            9 => put(&mut self.order, place, value),
-            10 => put(&mut self.taken, place, value),
+            0 => self.tab.change(change),
+            1 => self.used.change(change),
+            2 => self.bytes.change(change),
+            3 => self.marks.change(change),
+            4 => self.counts.change(change),
+            5 => self.bad.change(change),
+            6 => self.buffer.change(change),
+            7 => self.page.change(change),
+            8 => self.seen.change(change),
+            9 => self.order.change(change),
+            10 => self.taken.change(change),
             _ => None,
         }
     }
 
-    // Each part as long as the case says, in the order of `ROOMS`.
+    // Each part as long as the case says.
     fn lend(&mut self) -> Lent<'_> {
-        let Memory {
-            lens,
-            tab,
-            used,
-            bytes,
-            marks,
-            counts,
-            fuse,
-            bad,
-            buffer,
-            page,
-            seen,
-            order,
-            taken,
-        } = self;
         Lent {
-            tab: front(tab, lens[0]),
-            used: front(used, lens[1]),
-            bytes: front(bytes, lens[2]),
-            marks: front(marks, lens[3]),
-            counts: front(counts, lens[4]),
-            fuse,
-            bad: front(bad, lens[5]),
-            buffer: front(buffer, lens[6]),
-            page: front(page, lens[7]),
-            seen: front(seen, lens[8]),
-            order: front(order, lens[9]),
-            taken: front(taken, lens[10]),
+            tab: self.tab.lend(),
+            used: self.used.lend(),
+            bytes: self.bytes.lend(),
+            marks: self.marks.lend(),
+            counts: self.counts.lend(),
+            fuse: &mut self.fuse,
+            bad: self.bad.lend(),
+            buffer: self.buffer.lend(),
+            page: self.page.lend(),
+            seen: self.seen.lend(),
+            order: self.order.lend(),
+            taken: self.taken.lend(),
         }
     }
 
@@ -401,8 +404,7 @@ fn play(rt: &impl Print, case: u64, geo: Geometry, xs: &[u8], first: usize) -> O
         played.next = next;
         match step {
             Step::End => return Some(played),
-            Step::Length { part, len } => memory.set_length(part, len)?,
-            Step::Poke { part, place, value } => memory.poke(part, place, value)?,
+            Step::Change { part, change } => memory.change(part, change)?,
             Step::Fuse(fuse) => memory.fuse = fuse,
             Step::Call(call) => {
                 let Call { expected, .. } = call;
