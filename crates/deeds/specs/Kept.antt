@@ -8,7 +8,7 @@ use Rattle.deeds.specs.Deeds.{Kept, kept}
 abbrev pub kept_of : KeptMut → Kept
 kept_of k = kept (recorder_of k.unit) k.out.now k.file.now k.stored
 
--- the places lent are the same, and as long: what a call leaves lies where it was lent
+-- the geometry and the places lent are the same, and as long: what a call leaves lies where it was lent
 pub record Same (a b : KeptMut) : Type 0 where
   pub unit : unit.Same a.unit b.unit
   pub out : b.out.ghost_name ≡ a.out.ghost_name

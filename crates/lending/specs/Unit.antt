@@ -2,13 +2,14 @@
 use Rattle.std.specs.Prelude.{◌≡◌, length}
 use Rattle.model.specs.Device.{flash}
 use Rattle.model.specs.Entry.{Recorder, recorder}
-use Rattle.lending.specs.declared.Unit.{Unit}
+use Rattle.lending.specs.declared.UnitMut.{UnitMut}
 
-abbrev pub recorder_of : Unit → Recorder
+abbrev pub recorder_of : UnitMut → Recorder
 recorder_of u = recorder u.tab.now u.used.now (flash u.bytes.now u.marks.now u.counts.now u.fuse.now)
 
--- the places lent are the same, and as long: what a call leaves lies where it was lent
-pub record Same (a b : Unit) : Type 0 where
+-- the geometry and the places lent are the same, and as long: what a call leaves lies where it was lent
+pub record Same (a b : UnitMut) : Type 0 where
+  pub geo : b.geo ≡ a.geo
   pub tab : b.tab.ghost_name ≡ a.tab.ghost_name
   pub used : b.used.ghost_name ≡ a.used.ghost_name
   pub bytes : b.bytes.ghost_name ≡ a.bytes.ghost_name

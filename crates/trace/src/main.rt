@@ -8,7 +8,7 @@ ghost use Rattle.model.specs.Tables.{tab_words};
 ghost use Rattle.records.specs.Trace.{small?};
 
 use deeds::KeptMut;
-use lending::Unit;
+use lending::UnitMut;
 use model::{Geometry, PhysicalAddress};
 use records::HeaderError;
 use std::io;
@@ -16,50 +16,49 @@ use std::io::Print;
 
 // "Last: `m` and each entry as segment.page or `-`."
 #[tactic(auto, unfolding(model::specs::Lists::splice))]
-fn print_map<P: Print>(to: &P, geo: Geometry, map: &[u32], line: &mut [u8]) -> io::Result<()>
-    requires good { Good geo }
+fn print_map<P: Print>(to: &P, unit: &UnitMut<'_>, line: &mut [u8]) -> io::Result<()>
+    requires good { Good unit.now.geo }
+    requires map_len { unit.now.geo.e ≤ length unit.now.tab.now }
     requires in_bounds { 24 ≤ length line.old }
 {
+    let geo = unit.geo;
+    let tab: &[u32] = unit.tab;
     to.write_all(b"m")?;
-    for word in map {
+    for word in &tab[..geo.e] {
         let length = lines::put_entry(geo, PhysicalAddress(*word), line);
         to.write_all(&line[..length])?;
     }
     to.write_all(b"\n")
 }
 
-// "on formatted flash and fresh tables, records until the end"
+// "records until the end". No struct for the parameters: it would be made for this call alone, and taken apart again for `do_record`.
 #[tactic(auto, using(crate::proofs::Laws::taken))]
 fn follow<P: Print>(
     to: &P,
-    geo: Geometry,
     xs: &[u8],
     first: usize,
     bad: &[u8],
-    kept: &mut KeptMut<'_>,
+    kept: &mut KeptMut<'_, '_>,
     line: &mut [u8],
 ) -> io::Result<()>
-    requires geo_value { small? geo ≡ true }
-    requires tab_len { length kept.old.unit.tab.now ≡ tab_words geo }
+    requires geo_value { small? kept.old.unit.geo ≡ true }
+    requires tab_len { length kept.old.unit.tab.now ≡ tab_words kept.old.unit.geo }
     requires in_bounds { 24 ≤ length line.old }
     requires out_in_bounds { 2 * length kept.old.out.now + 3 ≤ length line.old }
 {
-    let unit = &mut kept.unit;
-    let _ = ftl::format(geo, unit.bytes, unit.marks, unit.counts, unit.fuse);
-    let _ = ftl::open(geo, unit.tab, unit.used);
     let mut at = first;
     // no `for`: each record says where the next begins
     while at < xs.len() {
-        let Some(told) = deeds::do_record(geo, xs, at, bad, kept, line) else {
+        let Some(told) = deeds::do_record(xs, at, bad, kept, line) else {
             return to.write_all(b"t !1\n");
         };
         to.write_all(&line[..told.length])?;
         at = told.next;
     }
-    print_map(to, geo, &kept.unit.tab[..geo.e], line)
+    print_map(to, &kept.unit, line)
 }
 
-// The memory of the largest device that a trace may have, of which each call is lent what the geometry asks.
+// "On formatted flash and fresh tables": the memory of the largest device that a trace may have, of which each call is lent what the geometry asks.
 #[tactic(auto, using(crate::proofs::Laws::taken))]
 fn play<P: Print>(to: &P, geo: Geometry, xs: &[u8], first: usize, bad: &[u8]) -> io::Result<()>
     requires { small? geo ≡ true }
@@ -74,12 +73,19 @@ fn play<P: Print>(to: &P, geo: Geometry, xs: &[u8], first: usize, bad: &[u8]) ->
     let mut file = [0u8; 8236];
     let mut line = [0u8; 1027];
     let pages = geo.pages();
-    let unit = Unit {
-        tab: &mut tab[..geo.words()],
-        used: &mut used[..pages],
-        bytes: &mut bytes[..pages * geo.s],
-        marks: &mut marks[..pages],
-        counts: &mut counts[..geo.n],
+    let (tab, used) = (&mut tab[..geo.words()], &mut used[..pages]);
+    let (bytes, marks) = (&mut bytes[..pages * geo.s], &mut marks[..pages]);
+    let counts = &mut counts[..geo.n];
+    // neither is refused: the geometry is small, so it is good, and the sizes are exact
+    let _ = ftl::format(geo, bytes, marks, counts, &mut fuse);
+    let _ = ftl::open(geo, tab, used);
+    let unit = UnitMut {
+        geo,
+        tab,
+        used,
+        bytes,
+        marks,
+        counts,
         fuse: &mut fuse,
     };
     let mut kept = KeptMut {
@@ -88,7 +94,7 @@ fn play<P: Print>(to: &P, geo: Geometry, xs: &[u8], first: usize, bad: &[u8]) ->
         file: &mut file,
         stored: 0,
     };
-    follow(to, geo, xs, first, bad, &mut kept, &mut line)
+    follow(to, xs, first, bad, &mut kept, &mut line)
 }
 
 // "Length is tested first, then the header's form, then its values."

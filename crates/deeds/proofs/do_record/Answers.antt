@@ -10,8 +10,8 @@ use Rattle.deeds.proofs.do_record.Goals as goal
 found : (xs : List ℕ) (at : ℕ) {e : Record} {next : ℕ} → Some (e, next) ≡ next_record xs at → (at < next) × Within xs e
 found xs at q = subst (Placed xs at) (sym q) (record_placed xs at)
 
-pub perform-answer-requires-clause-within : goal.perform-answer-requires-clause-within
-perform-answer-requires-clause-within c = (found c.args.xs.now c.args.at c.in_ok-rec.ensures).1
+pub perform-answer-requires : goal.perform-answer-requires
+perform-answer-requires c = (found c.args.xs.now c.args.at c.in_ok-rec.ensures).1
 
 pub returns-clause-ahead : goal.returns-clause-ahead
 unfolding splice

@@ -10,11 +10,11 @@ pages-pages-requires g c = good c.args.geo c.requires
 pub words-requires : goal.words-requires
 words-requires g c = good c.args.geo c.requires
 
-pub slice_bounds-unit-end : goal.slice_bounds-unit-end
-slice_bounds-unit-end g c = grind (arith, common_steps, words c.args.geo c.requires)
+pub slice_bounds-tab-end-2 : goal.slice_bounds-tab-end-2
+slice_bounds-tab-end-2 g c = grind (arith, common_steps, words c.args.geo c.requires)
 
-pub slice_bounds-unit-end-5 : goal.slice_bounds-unit-end-5
-slice_bounds-unit-end-5 g c = grind (arith, common_steps, segments c.args.geo c.requires)
+pub slice_bounds-counts-end-2 : goal.slice_bounds-counts-end-2
+slice_bounds-counts-end-2 g c = grind (arith, common_steps, segments c.args.geo c.requires)
 
 pub follow-requires-clause-tab_len : goal.follow-requires-clause-tab_len
 follow-requires-clause-tab_len g c = grind (arith, common_steps, words c.args.geo c.requires)

@@ -3,10 +3,10 @@ use Rattle.std.proofs.Common.{arith, []}
 use Rattle.model.specs.Entry.{lent, list_collection}
 use Rattle.lending.specs.Unit.{recorder_of}
 use Rattle.lending.proofs.Laws.{cut, does, three}
-use Rattle.lending.proofs.Unit.collect_list.Goals as goal
+use Rattle.lending.proofs.UnitMut.collect_list.Goals as goal
 
 pub returns-clause-done : goal.returns-clause-done
 returns-clause-done c =
     let a = c.args in
-    does (λ s. list_collection a.geo a.bad.now a.m (lent (recorder_of a.self.now) [] s))
+    does (λ s. list_collection a.self.now.geo a.bad.now a.m (lent (recorder_of a.self.now) [] s))
     c.collect_list.ensures.answered (three (cut 512 (omega arith) (omega arith)) (cut 2048 (omega arith) (omega arith)) (cut 1024 (omega arith) (omega arith)))
