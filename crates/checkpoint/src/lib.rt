@@ -114,6 +114,7 @@ pub fn encode(geo: Geometry, tab: &[u32], buffer: &mut [u8])
     requires tab_len { (length tab.now ≡ tab_words geo) × (file_size geo ≤ length buffer.old) }
     ensures { (u : List ℕ) → buffer.new ≡ splice 0 (sealed geo (view geo tab.now u)) buffer.old }
 {
+    // `TablesRef` would be no plainer: it asks for use marks too, which a file does not hold, and would lay the map and the free counts in by two calls.
     let body = geo.e + geo.n;
     let alloc = tab[geo.e + geo.n * 5];
     let size = file_size(geo);

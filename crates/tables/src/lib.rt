@@ -1,4 +1,4 @@
-// The tables that a caller lends, part by part; and the words that they lie in, cut into these parts for a call.
+// The tables that a caller lends, part by part; and the words that they lie in, lent to look at, or cut into these parts for a call.
 #![tactic(auto)]
 
 ghost use Rattle.std.specs.Prelude.{◌≡◌, ◌+◌, ◌*◌, ◌<◌, length};
