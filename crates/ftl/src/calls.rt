@@ -4,6 +4,7 @@ ghost use Rattle.ftl.specs.Calls.{Opened, MayRestore, Restored, MayWrite, Writte
 
 use device::FlashMut;
 use model::{Answer, LogicalPage, Queueing};
+use page_gc::{collect, collect_list, collect_threshold};
 use tables::TablesMut;
 use tables::packed::Deed;
 
@@ -104,15 +105,8 @@ impl Deed for Collecting<'_> {
             fuse: self.fuse,
         };
         match self.passes {
-            Passes::One => page_gc::collect(
-                t,
-                &mut flash,
-                self.counts,
-                self.bad,
-                self.page,
-                self.order,
-            ),
-            Passes::List(m) => page_gc::collect_list(
+            Passes::One => collect(t, &mut flash, self.counts, self.bad, self.page, self.order),
+            Passes::List(m) => collect_list(
                 t,
                 &mut flash,
                 self.counts,
@@ -121,18 +115,16 @@ impl Deed for Collecting<'_> {
                 self.page,
                 self.order,
             ),
-            Passes::Threshold(threshold, m) => {
-                page_gc::collect_threshold(
-                    t,
-                    &mut flash,
-                    self.counts,
-                    threshold,
-                    m,
-                    self.bad,
-                    self.page,
-                    self.order,
-                )
-            }
+            Passes::Threshold(threshold, m) => collect_threshold(
+                t,
+                &mut flash,
+                self.counts,
+                threshold,
+                m,
+                self.bad,
+                self.page,
+                self.order,
+            ),
         }
     }
 }

@@ -36,10 +36,7 @@ pub fn format(
         (lent (recorder [] [] (flash bytes.new marks.new counts.new fuse.new)) [] []) result }
     ensures countable { Countable result }
 {
-    if !sound::good(geo) {
-        return Err(Cause::Wrong);
-    }
-    if !guard::flash_fits(geo, bytes, marks, counts) {
+    if !sound::good(geo) || !guard::flash_fits(geo, bytes, marks, counts) {
         return Err(Cause::Wrong);
     }
     let mut flash = FlashMut {
@@ -59,10 +56,7 @@ pub fn open(geo: Geometry, tab: &mut [u32], used: &mut [u8]) -> Answer
         (lent (recorder tab.new used.new no_flash) [] []) result }
     ensures countable { Countable result }
 {
-    if !sound::good(geo) {
-        return Err(Cause::Wrong);
-    }
-    if !guard::tables_fit(geo, tab, used) {
+    if !sound::good(geo) || !guard::tables_fit(geo, tab, used) {
         return Err(Cause::Wrong);
     }
     on_packed(geo, tab, used, &mut Opening)
@@ -111,10 +105,7 @@ pub fn read(
         (lent (recorder tab.now used.now (flash bytes.now [] [] 0)) out.new (seen.new ∷ [])) result }
     ensures countable { Countable result }
 {
-    if !sound::good(geo) {
-        return Err(Cause::Wrong);
-    }
-    if !guard::read_fits(geo, len, tab, used, bytes, out, seen) {
+    if !sound::good(geo) || !guard::read_fits(geo, len, tab, used, bytes, out, seen) {
         return Err(Cause::Wrong);
     }
     if !sound::sound(geo, tab, used, seen) {
@@ -151,13 +142,10 @@ pub fn write(
         (lent (recorder tab.new used.new (flash bytes.new marks.new counts.now fuse.new)) [] (page.new ∷ seen.new ∷ [])) result }
     ensures countable { Countable result }
 {
-    if !sound::good(geo) {
-        return Err(Cause::Wrong);
-    }
-    if !guard::all_fit(geo, bad, tab, used, bytes, marks, counts, page, seen) {
-        return Err(Cause::Wrong);
-    }
-    if xs.len() < len {
+    if !sound::good(geo)
+        || !guard::all_fit(geo, bad, tab, used, bytes, marks, counts, page, seen)
+        || xs.len() < len
+    {
         return Err(Cause::Wrong);
     }
     if !sound::sound(geo, tab, used, seen) {
@@ -190,23 +178,20 @@ fn collection_tests(
         (soundb geo (view geo tab.now used.now)) }
     ensures seen_unchanged { seen.new ≡ seen.old }
 {
-    if !sound::good(geo) {
-        return Err(Cause::Wrong);
-    }
-    if !guard::all_fit(
-        geo,
-        deed.bad,
-        tab,
-        used,
-        deed.bytes,
-        deed.marks,
-        deed.counts,
-        deed.page,
-        seen,
-    ) {
-        return Err(Cause::Wrong);
-    }
-    if !guard::clean_words(deed.order, geo.n) {
+    if !sound::good(geo)
+        || !guard::all_fit(
+            geo,
+            deed.bad,
+            tab,
+            used,
+            deed.bytes,
+            deed.marks,
+            deed.counts,
+            deed.page,
+            seen,
+        )
+        || !guard::clean_words(deed.order, geo.n)
+    {
         return Err(Cause::Wrong);
     }
     if !sound::sound(geo, tab, used, seen) {
@@ -361,10 +346,7 @@ pub fn encode(geo: Geometry, tab: &[u32], used: &[u8], buffer: &mut [u8], seen: 
         (lent (recorder tab.now used.now no_flash) buffer.new (seen.new ∷ [])) result }
     ensures countable { Countable result }
 {
-    if !sound::good(geo) {
-        return Err(Cause::Wrong);
-    }
-    if !encode_fits(geo, tab, used, buffer, seen) {
+    if !sound::good(geo) || !encode_fits(geo, tab, used, buffer, seen) {
         return Err(Cause::Wrong);
     }
     if !sound::sound(geo, tab, used, seen) {
@@ -388,10 +370,7 @@ pub fn restore(
         (lent (recorder tab.new used.new no_flash) [] (taken.new ∷ [])) result }
     ensures countable { Countable result }
 {
-    if !sound::good(geo) {
-        return Err(Cause::Wrong);
-    }
-    if !guard::restore_fits(geo, tab, used, taken) {
+    if !sound::good(geo) || !guard::restore_fits(geo, tab, used, taken) {
         return Err(Cause::Wrong);
     }
     checkpoint::check(geo, file)?;

@@ -7,16 +7,18 @@ use Rattle.model.proofs.Guard.{each, good_test, tables_test}
 use Rattle.guard.proofs.Rows.{told}
 use Rattle.ftl.proofs.Files.{encoding_wrong, encoding_size, encoding_unsound, encoding-done, file_small}
 use Rattle.ftl.proofs.Guards.{clean_is, handed_back}
+use Rattle.ftl.proofs.encode.Goals.{then-not-good-via-then-not-good, then-not-good-via-else-not-good+then-not-encode_fits}
 use Rattle.ftl.proofs.encode.Goals as goal
 
 pub returns-then-not-good-clause-answered : goal.returns-then-not-good-clause-answered
-returns-then-not-good-clause-answered c = encoding_wrong _ _ (told c.good.ensures c.if-not-good.true)
+returns-then-not-good-clause-answered c =
+    elim c.then-not-good.branch [
+      | then-not-good-via-then-not-good w ↦ encoding_wrong _ _ (told c.good.ensures w.if-not-good.true)
+      | then-not-good-via-else-not-good+then-not-encode_fits w ↦ encoding_size _ _ (told w.encode_fits.ensures w.if-not-encode_fits.true)
+    ]
 
 pub encode_fits-requires : goal.encode_fits-requires
 encode_fits-requires c = good_test _ (told c.good.ensures c.if-not-good.false)
-
-pub returns-then-not-encode_fits-clause-answered : goal.returns-then-not-encode_fits-clause-answered
-returns-then-not-encode_fits-clause-answered c = encoding_size _ _ (told c.encode_fits.ensures c.if-not-encode_fits.true)
 
 pub sound-requires : goal.sound-requires
 sound-requires c =

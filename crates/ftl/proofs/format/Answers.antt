@@ -6,16 +6,18 @@ use Rattle.model.specs.Entry.{Answered, lent, recorder, formatting}
 use Rattle.model.proofs.Guard.{good_test, flash_test}
 use Rattle.guard.proofs.Rows.{told}
 use Rattle.ftl.proofs.Opening.{formatting_wrong, formatting_size, formatting-done}
+use Rattle.ftl.proofs.format.Goals.{then-not-good-via-then-not-good, then-not-good-via-else-not-good+then-not-flash_fits}
 use Rattle.ftl.proofs.format.Goals as goal
 
 pub returns-then-not-good-clause-answered : goal.returns-then-not-good-clause-answered
-returns-then-not-good-clause-answered c = formatting_wrong _ _ (told c.good.ensures c.if-not-good.true)
+returns-then-not-good-clause-answered c =
+    elim c.then-not-good.branch [
+      | then-not-good-via-then-not-good w ↦ formatting_wrong _ _ (told c.good.ensures w.if-not-good.true)
+      | then-not-good-via-else-not-good+then-not-flash_fits w ↦ formatting_size _ _ (told w.flash_fits.ensures w.if-not-flash_fits.true)
+    ]
 
 pub flash_fits-requires : goal.flash_fits-requires
 flash_fits-requires c = good_test _ (told c.good.ensures c.if-not-good.false)
-
-pub returns-then-not-flash_fits-clause-answered : goal.returns-then-not-flash_fits-clause-answered
-returns-then-not-flash_fits-clause-answered c = formatting_size _ _ (told c.flash_fits.ensures c.if-not-flash_fits.true)
 
 pub invariant_of-flash : goal.invariant_of-flash
 invariant_of-flash c =

@@ -4,16 +4,18 @@ use Rattle.model.specs.Entry.{lent, recorder, no_flash, tables_fit}
 use Rattle.model.proofs.Guard.{good_test, tables_test}
 use Rattle.guard.proofs.Rows.{told}
 use Rattle.ftl.proofs.Opening.{opening_wrong, opening_size, opening-done}
+use Rattle.ftl.proofs.open.Goals.{then-not-good-via-then-not-good, then-not-good-via-else-not-good+then-not-tables_fit}
 use Rattle.ftl.proofs.open.Goals as goal
 
 pub returns-then-not-good-clause-answered : goal.returns-then-not-good-clause-answered
-returns-then-not-good-clause-answered c = opening_wrong _ _ (told c.good.ensures c.if-not-good.true)
+returns-then-not-good-clause-answered c =
+    elim c.then-not-good.branch [
+      | then-not-good-via-then-not-good w ↦ opening_wrong _ _ (told c.good.ensures w.if-not-good.true)
+      | then-not-good-via-else-not-good+then-not-tables_fit w ↦ opening_size _ _ (told w.tables_fit.ensures w.if-not-tables_fit.true)
+    ]
 
 pub tables_fit-requires : goal.tables_fit-requires
 tables_fit-requires c = good_test _ (told c.good.ensures c.if-not-good.false)
-
-pub returns-then-not-tables_fit-clause-answered : goal.returns-then-not-tables_fit-clause-answered
-returns-then-not-tables_fit-clause-answered c = opening_size _ _ (told c.tables_fit.ensures c.if-not-tables_fit.true)
 
 pub on_packed-requires-clause-good : goal.on_packed-requires-clause-good
 on_packed-requires-clause-good c = good_test _ (told c.good.ensures c.if-not-good.false)

@@ -16,16 +16,18 @@ use Rattle.guard.proofs.Rows.{told}
 use Rattle.ftl.proofs.Guards.{clean_is, handed_back}
 use Rattle.ftl.proofs.Reading.{word_read, read_wrong, read_size, read_in, read_unsound, read_place, read_unmapped, read_done}
 use Rattle.ftl.proofs.Places.{placed, misplaced}
+use Rattle.ftl.proofs.read.Goals.{then-not-good-via-then-not-good, then-not-good-via-else-not-good+then-not-read_fits}
 use Rattle.ftl.proofs.read.Goals as goal
 
 pub returns-then-not-good-clause-answered : goal.returns-then-not-good-clause-answered
-returns-then-not-good-clause-answered c = read_wrong _ _ _ _ (told c.good.ensures c.if-not-good.true)
+returns-then-not-good-clause-answered c =
+    elim c.then-not-good.branch [
+      | then-not-good-via-then-not-good w ↦ read_wrong _ _ _ _ (told c.good.ensures w.if-not-good.true)
+      | then-not-good-via-else-not-good+then-not-read_fits w ↦ read_size _ _ _ _ (told w.read_fits.ensures w.if-not-read_fits.true)
+    ]
 
 pub read_fits-requires : goal.read_fits-requires
 read_fits-requires c = good_test _ (told c.good.ensures c.if-not-good.false)
-
-pub returns-then-not-read_fits-clause-answered : goal.returns-then-not-read_fits-clause-answered
-returns-then-not-read_fits-clause-answered c = read_size _ _ _ _ (told c.read_fits.ensures c.if-not-read_fits.true)
 
 pub sound-requires : goal.sound-requires
 sound-requires c =

@@ -7,16 +7,18 @@ use Rattle.model.proofs.Sealed.{reason_most}
 use Rattle.guard.proofs.Rows.{told}
 use Rattle.ftl.proofs.Files.{restoring_wrong, restoring_size, restoring_reason, restoring-done, file_refused, file_taken}
 use Rattle.ftl.proofs.Guards.{clean_is, handed_back}
+use Rattle.ftl.proofs.restore.Goals.{then-not-good-via-then-not-good, then-not-good-via-else-not-good+then-not-restore_fits}
 use Rattle.ftl.proofs.restore.Goals as goal
 
 pub returns-then-not-good-clause-answered : goal.returns-then-not-good-clause-answered
-returns-then-not-good-clause-answered c = restoring_wrong _ _ _ _ (told c.good.ensures c.if-not-good.true)
+returns-then-not-good-clause-answered c =
+    elim c.then-not-good.branch [
+      | then-not-good-via-then-not-good w ↦ restoring_wrong _ _ _ _ (told c.good.ensures w.if-not-good.true)
+      | then-not-good-via-else-not-good+then-not-restore_fits w ↦ restoring_size _ _ _ _ (told w.restore_fits.ensures w.if-not-restore_fits.true)
+    ]
 
 pub restore_fits-requires : goal.restore_fits-requires
 restore_fits-requires c = good_test _ (told c.good.ensures c.if-not-good.false)
-
-pub returns-then-not-restore_fits-clause-answered : goal.returns-then-not-restore_fits-clause-answered
-returns-then-not-restore_fits-clause-answered c = restoring_size _ _ _ _ (told c.restore_fits.ensures c.if-not-restore_fits.true)
 
 pub check-requires : goal.check-requires
 check-requires c = good_test _ (told c.good.ensures c.if-not-good.false)

@@ -11,22 +11,21 @@ use Rattle.guard.proofs.Rows.{told}
 use Rattle.ftl.proofs.Passing.{passed, held}
 use Rattle.ftl.proofs.Places.{placed, misplaced}
 use Rattle.ftl.proofs.Writing.{sent_fits, inner, answer_fits, wrong_geometry, wrong_size, too_short, unsound, refused_place, done}
+use Rattle.ftl.proofs.write.Goals.{then-not-good-via-then-not-good, then-not-good-via-else-not-good+then-not-all_fit, then-not-good-via-else-not-good+else-not-all_fit+then-xs-len}
 use Rattle.ftl.proofs.write.Goals as goal
 
 pub returns-then-not-good-clause-answered : goal.returns-then-not-good-clause-answered
-returns-then-not-good-clause-answered c = wrong_geometry _ _ _ _ _ _ _ _ (told c.good.ensures c.if-not-good.true)
+returns-then-not-good-clause-answered c =
+    elim c.then-not-good.branch [
+      | then-not-good-via-then-not-good w ↦ wrong_geometry _ _ _ _ _ _ _ _ (told c.good.ensures w.if-not-good.true)
+      | then-not-good-via-else-not-good+then-not-all_fit w ↦
+          wrong_size _ _ _ _ _ _ _ _ (told c.good.ensures w.if-not-good.false) (told w.all_fit.ensures w.if-not-all_fit.true)
+      | then-not-good-via-else-not-good+else-not-all_fit+then-xs-len w ↦
+          too_short _ _ _ _ _ _ _ _ (told c.good.ensures w.if-not-good.false) (told w.all_fit.ensures w.if-not-all_fit.false) (lt-leb _ _ w.if-xs-len.true)
+    ]
 
 pub all_fit-requires : goal.all_fit-requires
 all_fit-requires c = good_test _ (told c.good.ensures c.if-not-good.false)
-
-pub returns-then-not-all_fit-clause-answered : goal.returns-then-not-all_fit-clause-answered
-returns-then-not-all_fit-clause-answered c =
-    wrong_size _ _ _ _ _ _ _ _ (told c.good.ensures c.if-not-good.false) (told c.all_fit.ensures c.if-not-all_fit.true)
-
-pub returns-then-xs-len-clause-answered : goal.returns-then-xs-len-clause-answered
-returns-then-xs-len-clause-answered c =
-    too_short _ _ _ _ _ _ _ _ (told c.good.ensures c.if-not-good.false) (told c.all_fit.ensures c.if-not-all_fit.false)
-    (lt-leb _ _ c.if-xs-len.true)
 
 pub sound-requires : goal.sound-requires
 sound-requires c =
