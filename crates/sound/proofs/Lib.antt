@@ -5,5 +5,4 @@ pub mod Passed
 pub mod Bijection
 pub mod Placed
 pub mod Flat
-pub mod Scratch
 pub mod Whole

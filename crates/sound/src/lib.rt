@@ -140,7 +140,7 @@ impl<'a> Home<'a> {
         ensures seen_unchanged { seen.new ≡ seen.old }
     {
         let ok = self.mark(list, seen);
-        seen[..self.used].fill(0);
+        seen.fill(0);
         ok
     }
 
@@ -181,7 +181,7 @@ fn queued(queue: &[u32], free: &[u32], flags: &[u32], seen: &mut [u8]) -> bool
     ensures seen_unchanged { seen.new ≡ seen.old }
 {
     let ok = mark_queue(queue, free, flags, seen);
-    seen[..free.len()].fill(0);
+    seen.fill(0);
     ok
 }
 
