@@ -1,4 +1,5 @@
 pub mod Laws
 pub mod Places
+pub mod Rows
 pub mod Coded
 pub mod Examples

@@ -1,5 +1,5 @@
 -- "Numbers are groups of seven bits, lowest first, high bit on all but the last, shortest form only, below 2^64."
-use Rattle.std.specs.Prelude.{ℕ, zero, suc, ◌+◌, ◌-◌, ◌*◌, ◌/◌, ◌%◌, cond, ◌&&◌, Option, Some, None, List, [], ◌∷◌, ltb, length, get_or}
+use Rattle.std.specs.Prelude.{ℕ, zero, suc, ◌+◌, ◌-◌, ◌*◌, ◌/◌, ◌%◌, cond, ◌&&◌, Option, Some, None, List, [], ◌∷◌, ◌++◌, ltb, length, get_or}
 
 -- A group b with the high bit on, in front of what follows. Shortest form: what follows is not 0. Below 2^64: what follows is below 2^57.
 unfoldable pub longer : ℕ → Option (ℕ × ℕ) → Option (ℕ × ℕ)
@@ -17,6 +17,21 @@ groups s (suc allowed) at =
 -- the number at a place
 abbrev pub number : List ℕ → ℕ → Option (ℕ × ℕ)
 number s at = groups s 10 at
+
+-- what comes after a number, or what a bad number makes of it all
+abbrev pub after : {A : Type 0} → Option (ℕ × ℕ) → A → (ℕ → ℕ → A) → A
+after None bad f = bad
+after (Some (x, next)) bad f = f x next
+
+-- the numbers xs in front of those that follow
+unfoldable pub ahead : List ℕ → Option (List ℕ × ℕ) → Option (List ℕ × ℕ)
+ahead xs None = None
+ahead xs (Some (ys, next)) = Some (xs ++ ys, next)
+
+-- so many numbers, one after the other from a place, and the place after them
+unfoldable pub row : List ℕ → ℕ → ℕ → Option (List ℕ × ℕ)
+row s zero at = Some ([], at)
+row s (suc k) at = after (number s at) None λ x next. ahead (x ∷ []) (row s k next)
 
 -- "groups of seven bits, lowest first, high bit on all but the last, shortest form only": the bytes of x, with so many groups allowed
 unfoldable pub coded : ℕ → ℕ → List ℕ

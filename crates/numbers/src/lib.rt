@@ -3,7 +3,7 @@
 #![tactic(auto)]
 
 ghost use Rattle.std.specs.Prelude.{◌≡◌, ◌<◌, ◌≤◌};
-ghost use Rattle.numbers.specs.Groups.{longer, groups, number};
+ghost use Rattle.numbers.specs.Groups.{longer, groups, number, row};
 
 // A group b with the high bit on, in front of the groups behind it. Those make no 0, since the form is the shortest, and less than 2^57, since
 // the number is below 2^64.
@@ -40,4 +40,17 @@ pub fn number(s: &[u8], at: usize) -> Option<(usize, usize)>
     ensures { result ≡ number s.now at }
 {
     groups(s, at, 10)
+}
+
+// N numbers from a place on, and the place after them.
+#[tactic(auto, using(crate::proofs::Rows::row_short, crate::proofs::Rows::row_all))]
+pub fn row<const N: usize>(s: &[u8], at: usize) -> Option<([usize; N], usize)>
+    ensures { result ≡ row s.now N at }
+{
+    let mut row = [0; N];
+    let mut next = at;
+    for x in row.iter_mut() {
+        (*x, next) = number(s, next)?;
+    }
+    Some((row, next))
 }

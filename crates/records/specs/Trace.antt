@@ -5,15 +5,11 @@ use Rattle.model.specs.Numbers.{good?, geometry}
 use Rattle.model.specs.Tables.{pages}
 use Rattle.model.specs.declared.Queueing.TheVariants.{Empty, Dead}
 use Rattle.numbers.specs.Groups.{number}
+pub use Rattle.numbers.specs.Groups.{after}
 pub use Rattle.records.specs.declared.HeaderError.{HeaderError}
 pub use Rattle.records.specs.declared.HeaderError.TheVariants.{Form, Values}
 pub use Rattle.records.specs.declared.Record.{Record}
 pub use Rattle.records.specs.declared.Record.TheVariants.{Write, Read, Collect, CollectList, Checkpoint, Restore}
-
--- what comes after a number, or what a bad number makes of it all
-abbrev pub after : {A : Type 0} → Option (ℕ × ℕ) → A → (ℕ → ℕ → A) → A
-after None bad f = bad
-after (Some (x, next)) bad f = f x next
 
 -- "n·p above 1,024, s above 512, n·p·s above 32,768 … or a bad geometry"
 abbrev pub small? : Geometry → Bool

@@ -5,7 +5,7 @@ ghost use Rattle.std.specs.Prelude.{◌≡◌, true, set};
 ghost use Rattle.records.specs.Trace.{front, marking, header, write_record, read_record, list_record, record_of, next_record, small?};
 
 use model::{Geometry, Queueing};
-use numbers::number;
+use numbers::{number, row};
 
 // Why a header is refused: for its form, or for its values.
 #[derive(Clone, Copy, Debug, PartialEq, Eq)]
@@ -15,7 +15,7 @@ pub enum HeaderError {
 }
 
 // A record; a write's bytes stand in the trace, at the place that is its third number.
-#[derive(Clone, Copy)]
+#[derive(Clone, Copy, Debug, PartialEq, Eq)]
 pub enum Record {
     Write(usize, usize, usize),
     Read(usize, usize),
@@ -26,17 +26,10 @@ pub enum Record {
 }
 
 // The seven numbers at the front of a trace: the geometry, the count of bad segments and the place of the first of them.
-#[tactic(auto, unfolding(crate::specs::Trace::front))]
 fn front(xs: &[u8]) -> Option<(Geometry, usize, usize)>
     ensures { result ≡ front xs.now }
 {
-    let (n, at) = number(xs, 0)?;
-    let (p, at) = number(xs, at)?;
-    let (s, at) = number(xs, at)?;
-    let (w, at) = number(xs, at)?;
-    let (e, at) = number(xs, at)?;
-    let (limit, at) = number(xs, at)?;
-    let (count, at) = number(xs, at)?;
+    let ([n, p, s, w, e, limit, count], at) = row::<7>(xs, 0)?;
     let geo = Geometry::of(n, p, s, w, e, limit);
     Some((geo, count, at))
 }
@@ -50,7 +43,8 @@ fn mark(bad: &mut [u8], g: usize)
     }
 }
 
-// The bad segments, each marked if it has a mark: the place after their numbers, and whether each is below n.
+// The bad segments, each marked if it has a mark: the place after their numbers, and whether each is below n. The definition `marking` has both, since a
+// header is refused for its form before its values.
 #[tactic(auto, using(crate::proofs::Laws::marking_done, crate::proofs::Laws::marking_short))]
 fn mark_all(xs: &[u8], at: usize, n: usize, count: usize, bad: &mut [u8]) -> Option<(usize, bool)>
     ensures { (result, bad.new) ≡ marking xs.now n count at true bad.old }
@@ -120,6 +114,7 @@ fn list_record(xs: &[u8], at: usize) -> Option<(Record, usize)>
     Some((Record::CollectList(m), next))
 }
 
+// The format names kinds by numbers, and here they end.
 #[tactic(auto, unfolding(crate::specs::Trace::record_of))]
 fn record_of(xs: &[u8], kind: usize, at: usize) -> Option<(Record, usize)>
     ensures { result ≡ record_of xs.now kind at }

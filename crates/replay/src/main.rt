@@ -8,6 +8,7 @@ ghost use Rattle.model.specs.Checkpoint.{long, words};
 ghost use Rattle.replay.specs.Lent.{everything};
 
 use model::{Answer, Geometry, Numbers, Queueing};
+use numbers::{number, row};
 use std::fmt;
 
 // What a call comes to: whether it is refused, its answer without sign, and the CRC of all that is lent after it.
@@ -76,16 +77,6 @@ enum Step {
     Call(Call),
 }
 
-// The numbers from a place on, and the place after them.
-fn row<const N: usize>(xs: &[u8], at: usize) -> Option<([usize; N], usize)> {
-    let mut row = [0; N];
-    let mut next = at;
-    for x in row.iter_mut() {
-        (*x, next) = numbers::number(xs, next)?;
-    }
-    Some((row, next))
-}
-
 impl Call {
     // The call of a step by its number: 4 to 12 are the nine entries; 13 to 16 are 7 to 10 in the new numbers, 17 is 12 with the dead queued.
     fn of(op: usize, a: usize, b: usize, expected: Outcome) -> Option<Call> {
@@ -117,7 +108,7 @@ impl Call {
 impl Step {
     // The step at a place, and the place after it.
     fn read(xs: &[u8], at: usize) -> Option<(Step, usize)> {
-        let (op, first) = numbers::number(xs, at)?;
+        let (op, first) = number(xs, at)?;
         match op {
             0 => Some((Step::End, first)),
             1 => {
@@ -131,7 +122,7 @@ impl Step {
                 Some((Step::Change { part, change }, next))
             }
             3 => {
-                let (fuse, next) = numbers::number(xs, first)?;
+                let (fuse, next) = number(xs, first)?;
                 Some((Step::Fuse(fuse as u64), next))
             }
             _ => {
