@@ -1,6 +1,6 @@
 -- The turn of one logical page, against the definition's walk over the map.
 use Prim.Native.Nat.{ℕ, zero, suc, ◌+◌, ◌*◌, ◌-◌, ◌≤◌, ◌<◌}
-use native.Mathlib.Nat.{sub-zero, mul-le-mul}
+use native.Mathlib.Nat.{sub-zero}
 use native.Mathlib.Numerals.{add-one}
 use native.Mathlib.Omega.{arith}
 use mathlib.Core.Path.{◌≡◌, sym, ap, ap₂, ◌∙◌, subst}
@@ -127,8 +127,8 @@ walk_none G l m t h = ap (λ ws. settle_all G l ws t) (drop_of_length-le m h)
 -- what the stores need, of a page that is taken
 pub record Room (G : Geometry) (t : Tables) (x : Spot) : Type 0 where
   pub seg : x.segment < G.n
+  pub page : x.page < G.p
   pub place : x.segment * G.p + x.page < pages G
-  pub few : pages G ≤ 67107840
   pub valid : at t.valid x.segment < G.p
   pub lens : at t.lens x.segment < G.p
 
@@ -171,8 +171,8 @@ module _ (G : Geometry) (K : Good G) (l : ℕ) (t : Tables) (s : List ℕ) (T : 
           rw e
           (record {
             seg = good.seg;
+            page = omega (arith, good.page);
             place = below_part G.p good.seg (omega (arith, good.page));
-            few = mul-le-mul K.n≤ K.p≤;
             valid = room_valid;
             lens = room_lens;
           })

@@ -198,7 +198,7 @@ fn takes(t: &TablesMut<'_>, a: PhysicalAddress, taken: &[u8]) -> bool
     let at = t.geo.spot_of(a);
     at.segment < t.geo.n
         && at.page + (t.free[at.segment] as usize) < t.geo.p
-        && taken[at.segment * t.geo.p + at.page] == 0
+        && taken[t.geo.number_of(at)] == 0
 }
 
 // Logical page l to the end of the list of segment g.
@@ -227,7 +227,7 @@ fn settle(t: &mut TablesMut<'_>, l: LogicalPage, taken: &mut [u8])
         return;
     }
     let at = t.geo.spot_of(a);
-    taken[at.segment * t.geo.p + at.page] = 1;
+    taken[t.geo.number_of(at)] = 1;
     list_page(t, l, at.segment);
 }
 

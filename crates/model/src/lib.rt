@@ -1,7 +1,7 @@
 // What the definitions and the code share: geometry, page numbers, where a page is, what a call answers.
 #![tactic(auto)]
 
-ghost use Rattle.std.specs.Prelude.{◌≡◌, ◌<◌, ◌≤◌, ◌^◌, eqb};
+ghost use Rattle.std.specs.Prelude.{◌≡◌, ◌+◌, ◌*◌, ◌<◌, ◌≤◌, ◌^◌, eqb};
 ghost use Rattle.model.specs.Numbers.{Good, geometry, empty, addr, seg_of, page_of};
 ghost use Rattle.model.specs.Tables.{tab_words, pages};
 ghost use Rattle.model.specs.PageMap.{spot};
@@ -84,6 +84,15 @@ impl Geometry {
             segment: x / self.span(),
             page: x % self.span(),
         }
+    }
+
+    // The place of a page among all, segment by segment.
+    pub fn number_of(self, at: Spot) -> usize
+        requires good { Good self }
+        requires in_bounds { (at.segment < self.n) × (at.page < self.p) }
+        ensures { result ≡ at.segment * self.p + at.page }
+    {
+        at.segment * self.p + at.page
     }
 
     // How many pages there are, and how many words are lent.

@@ -87,7 +87,7 @@ pub fn spend(t: &mut TablesMut<'_>, spot: Spot)
     ensures spent { tables_of t.new ≡ spend t.old.geo spot.segment spot.page (tables_of t.old) }
 {
     let g = spot.segment;
-    t.used[g * t.geo.p + spot.page] = 1;
+    t.used[t.geo.number_of(spot)] = 1;
     t.free[g] -= 1;
     t.valid[g] += 1;
     *t.alloc = g as u32;

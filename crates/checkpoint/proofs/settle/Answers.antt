@@ -25,20 +25,15 @@ module _ (t : TablesMut) (l : ℕ) (s : List ℕ) (r : (l < t.geo.e) × Turn t.g
   passed : takes t.geo word (tables_of t) s ≡ false → Onward t.geo l (tables_of t) (set_map (set t.map.now l empty) (tables_of t)) s
   passed = turn_passed t.geo t.good l (tables_of t) s r.1 r.0 word refl
 
-pub overflow_mul-taken : goal.overflow_mul-taken
-overflow_mul-taken c =
+pub number_of-requires-clause-in_bounds : goal.number_of-requires-clause-in_bounds
+number_of-requires-clause-in_bounds c =
     let R = has_room c.args.t.now c.args.l.0 c.args.taken.now c.requires (sym c.takes.ensures ∙ c.if-not-takes.false) _ c.spot_of-at.ensures in
-    omega (arith, R.place, R.few)
+    (R.seg, R.page)
 
-pub overflow_add-taken : goal.overflow_add-taken
-overflow_add-taken c =
+pub bounds-taken-number_of : goal.bounds-taken-number_of
+bounds-taken-number_of c =
     let R = has_room c.args.t.now c.args.l.0 c.args.taken.now c.requires (sym c.takes.ensures ∙ c.if-not-takes.false) _ c.spot_of-at.ensures in
-    omega (arith, R.place, R.few)
-
-pub bounds-taken-at : goal.bounds-taken-at
-bounds-taken-at c =
-    let R = has_room c.args.t.now c.args.l.0 c.args.taken.now c.requires (sym c.takes.ensures ∙ c.if-not-takes.false) _ c.spot_of-at.ensures in
-    omega (arith, R.place, c.requires.1.marks_size)
+    omega (arith, R.place, c.number_of.ensures, c.requires.1.marks_size)
 
 pub list_page-requires-clause-in_bounds : goal.list_page-requires-clause-in_bounds
 list_page-requires-clause-in_bounds c =
@@ -57,7 +52,9 @@ pub returns-then-not-takes-clause-ending : goal.returns-then-not-takes-clause-en
 returns-then-not-takes-clause-ending c = (passed c.args.t.now c.args.l.0 c.args.taken.now c.requires (sym c.takes.ensures ∙ c.if-not-takes.true)).1
 
 pub returns-clause-turn : goal.returns-clause-turn
-returns-clause-turn c = (taken c.args.t.now c.args.l.0 c.args.taken.now c.requires (sym c.takes.ensures ∙ c.if-not-takes.false) _ c.spot_of-at.ensures _ c.list_page.ensures.listed).0
+returns-clause-turn c =
+    rw c.number_of.ensures
+    (taken c.args.t.now c.args.l.0 c.args.taken.now c.requires (sym c.takes.ensures ∙ c.if-not-takes.false) _ c.spot_of-at.ensures _ c.list_page.ensures.listed).0
 
 pub returns-clause-ending : goal.returns-clause-ending
 returns-clause-ending c = (taken c.args.t.now c.args.l.0 c.args.taken.now c.requires (sym c.takes.ensures ∙ c.if-not-takes.false) _ c.spot_of-at.ensures _ c.list_page.ensures.listed).1
