@@ -177,6 +177,7 @@ fn unlist(t: &mut TablesMut<'_>)
 // Opening: nothing mapped, every page free. "an allocation segment >= n becomes 0"
 #[tactic(auto, using(crate::proofs::Marking::used_none))]
 pub fn open(t: &mut TablesMut<'_>)
+    requires marks { length t.old.used.now ≡ pages t.old.geo }
     ensures same { Same t.old t.new }
     ensures opened { tables_of t.new ≡ opened t.old.geo t.old.alloc.now }
 {
@@ -270,6 +271,7 @@ fn read_in(t: &mut TablesMut<'_>, file: &[u8])
 
 // Restoring from a file that passes. The taken marks come back clear.
 pub fn restore(t: &mut TablesMut<'_>, file: &[u8], taken: &mut [u8])
+    requires marks { length t.old.used.now ≡ pages t.old.geo }
     requires taken_value { taken.old ≡ zeros (pages t.old.geo) }
     requires passes { reason_of t.old.geo file.now ≡ 0 }
     ensures same { Same t.old t.new }

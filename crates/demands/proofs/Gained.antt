@@ -1,5 +1,5 @@
--- 02, M-111, of the functions that run: what a number that came back tells of the free pages. Each premise `PromiseIn N …` is the `ensures` of a collection
--- or of `write`, as in Demands.
+-- 02, M-111, of the functions that run: what a number that came back tells of the free pages. Each premise `PromiseIn N …` is the `ensures` of the C name
+-- of a collection or a write, and follows from that of crates/ftl, as in Demands.
 use Prim.Native.Nat.{ℕ, ◌+◌, ◌-◌, ◌≤◌, ◌<◌}
 use native.Mathlib.Omega.{arith}
 use mathlib.Core.Path.{◌≡◌, refl, sym, ap, ◌∙◌, subst}

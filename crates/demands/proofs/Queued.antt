@@ -1,4 +1,5 @@
--- 02, M-109, of the functions that run: what `restore` leaves under either choice. Each premise `Promise …` is its `ensures`, letter for letter.
+-- 02, M-109, of the functions that run: what `restore` leaves under either choice. Each premise `Promise …` is the `ensures` of `shr_restore` or
+-- `shr_restore_dead` (crates/ffi/src/lib.rt), letter for letter, and follows from that of `ftl::restore` by `told_in`.
 use Prim.Native.Nat.{ℕ, ◌<◌}
 use mathlib.Core.Path.{◌≡◌, sym, ap, ◌∙◌, subst}
 use mathlib.Core.List.{List, [], ◌∷◌}

@@ -1,5 +1,5 @@
 -- 02, M-102: "from formatted flash and fresh tables, with no further opening or restore, no call is ever refused for this". Each premise `PromiseIn N …` is
--- the `ensures` of a public function, as in Demands.
+-- the `ensures` of a C name, and follows from that of crates/ftl, as in Demands.
 use Prim.Native.Nat.{ℕ, ◌*◌, ◌≤◌}
 use native.Mathlib.Omega.{arith}
 use mathlib.Core.Path.{◌≡◌, refl, sym, ap, ◌∙◌, subst}

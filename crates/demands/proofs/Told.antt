@@ -1,5 +1,5 @@
--- 02, M-101, of the functions that run: the new numbers beside the old, and what they tell. Each premise `PromiseIn …` is the `ensures` of `write` or a
--- collection under that choice, as in Demands; the other calls have one number under both (`one_number`).
+-- 02, M-101, of the functions that run: the new numbers beside the old, and what they tell. Each premise `PromiseIn …` is the `ensures` of the C name of
+-- a write or a collection under that choice, and follows from that of crates/ftl, as in Demands; the other calls have one number under both (`one_number`).
 use Prim.Native.Nat.{ℕ, zero, suc, ◌≤◌}
 use native.Mathlib.Omega.{arith}
 use mathlib.Core.Path.{◌≡◌, refl, sym, ap, ◌∙◌, subst}

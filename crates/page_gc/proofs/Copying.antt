@@ -6,13 +6,13 @@ use mathlib.Core.Path.{◌≡◌, refl, sym, ap, subst, ◌∙◌}
 use mathlib.Core.Logic.{◌≢◌}
 use mathlib.Core.List.{List, []}
 use mathlib.Core.Bool.{true}
-use lib.ListN.{length-replicate}
+use lib.ListN.{length, length-replicate}
 use Rattle.std.specs.Result.{MatchResult, is_ok}
 use Rattle.model.specs.declared.Geometry.{Geometry}
 use Rattle.model.specs.declared.Cause.{Cause}
 use Rattle.model.specs.Lists.{zeros}
 use Rattle.model.specs.Numbers.{Answer, Ok, Err, empty}
-use Rattle.model.specs.Tables.{Tables, at}
+use Rattle.model.specs.Tables.{Tables, at, pages}
 use Rattle.model.specs.Sound.{Sound, Mapped}
 use Rattle.model.specs.Device.{State, state}
 use Rattle.model.specs.Contract.{Done}
@@ -54,15 +54,15 @@ pub record Copying (bad : List ℕ) (v : ℕ) (t₀ : TablesMut) (f₀ : FlashMu
   pub goes : (c : List ℕ) (r : Answer) (s : State) → Done (drain t₀.geo bad (t₀.geo.p - i) v (state (tables_of t) (flash_of f c))) r s
       → Done (drain t₀.geo bad t₀.geo.p v (state (tables_of t₀) (flash_of f₀ c))) r s
 
-pub copying_start : (bad : List ℕ) (v : ℕ) (t : TablesMut) (f : FlashMut) → f.geo ≡ t.geo → Sound t.geo (tables_of t) → v < t.geo.n → at t.free.now v ≡ 0
-    → at t.flags.now v ≡ 1 → Copying bad v t f t f 0
-copying_start bad v t f e S seg z x =
+pub copying_start : (bad : List ℕ) (v : ℕ) (t : TablesMut) (f : FlashMut) → f.geo ≡ t.geo → length t.used.now ≡ pages t.geo → Sound t.geo (tables_of t)
+    → v < t.geo.n → at t.free.now v ≡ 0 → at t.flags.now v ≡ 1 → Copying bad v t f t f 0
+copying_start bad v t f e u S seg z x =
     record {
       same = search;
       same_flash = search;
       geometry = e;
       seg = seg;
-      counted = sound_counted t.geo (tables_of t) (sized t) S;
+      counted = sound_counted t.geo (tables_of t) (sized t u) S;
       full = z;
       flagged = x;
       goes = λ c r s D. subst (λ j. Done (drain t.geo bad j v (state (tables_of t) (flash_of f c))) r s) (sub-zero t.geo.p) D;
@@ -74,6 +74,9 @@ module _ {bad : List ℕ} {v : ℕ} {t₀ : TablesMut} {f₀ : FlashMut} {t : Ta
 
   abbrev T : Tables
   T = tables_of t
+
+  pub marks_here : length t.used.now ≡ pages t.geo
+  marks_here = rw C.same.geo C.counted.sized.used
 
   pub sound_here : Sound t.geo (tables_of t)
   sound_here = rw C.same.geo (counted_sound G T C.counted)
@@ -113,6 +116,9 @@ module _ {bad : List ℕ} {v : ℕ} {t₀ : TablesMut} {f₀ : FlashMut} {t : Ta
 
       tables_are : tables_of t' ≡ (write_page G bad l 0 [] st).st.tab
       tables_are = ap (λ (s : State). s.tab) (done (zeros G.n)).left
+
+      pub marks_after : length t'.used.now ≡ pages t'.geo
+      marks_after = rw (S.geo ∙ C.same.geo) (ap (λ (x : Tables). length x.used) tables_are ∙ Wr.sound.sized.used)
 
       pub sound_after : Sound t'.geo (tables_of t')
       sound_after = rw (S.geo ∙ C.same.geo, tables_are) (counted_sound G _ Wr.sound)

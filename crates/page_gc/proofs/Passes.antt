@@ -11,7 +11,7 @@ use Rattle.model.specs.declared.Geometry.{Geometry}
 use Rattle.model.specs.declared.Cause.{Cause}
 use Rattle.model.specs.declared.Cause.TheVariants.{Erase}
 use Rattle.model.specs.Numbers.{Answer, Ok, Err}
-use Rattle.model.specs.Tables.{Tables, at}
+use Rattle.model.specs.Tables.{Tables, at, pages}
 use Rattle.model.specs.Sound.{Sound}
 use Rattle.model.specs.Device.{Flash, State, state, may_erase, erased}
 use Rattle.model.specs.Contract.{Done}
@@ -32,10 +32,13 @@ use Rattle.device.proofs.Lent.{fits}
 use Rattle.device.proofs.Tried.{tried_ok, tried_err}
 
 -- the victim v taken from t, which left t'
-module _ (t : TablesMut) (S : Sound t.geo (tables_of t)) (some : 0 < t.queued.now) (t' : TablesMut) (same : Same t t')
-    (rest : tables_of t' ≡ taken (tables_of t)) where
+module _ (t : TablesMut) (marks : length t.used.now ≡ pages t.geo) (S : Sound t.geo (tables_of t)) (some : 0 < t.queued.now) (t' : TablesMut)
+    (same : Same t t') (rest : tables_of t' ≡ taken (tables_of t)) where
   counted : Counted t.geo (tables_of t)
-  counted = sound_counted t.geo (tables_of t) (sized t) S
+  counted = sound_counted t.geo (tables_of t) (sized t marks) S
+
+  pub took_marks : length t'.used.now ≡ pages t'.geo
+  took_marks = rw same.geo (ap (λ (x : Tables). length x.used) rest ∙ marks)
 
   pub took_sound : Sound t'.geo (tables_of t')
   took_sound = rw (same.geo, rest) (counted_sound t.geo _ (taken_sound t.geo (tables_of t) counted some))
@@ -84,15 +87,16 @@ module _ (G : Geometry) (bad : List ℕ) (st : State) where
           let q' = rw first at q in
           ends (subst (λ o. Done o (Ok 0) (state t f)) (sym (finish-done G (victim st.tab) s d.0)) (record { answer = refl; left = rw (q', d.1) }))
 
--- a pass keeps the tables sound
-pub pass_sound : (bad : List ℕ) (t : TablesMut) (f : FlashMut) (c : List ℕ) → Sound t.geo (tables_of t) → f.geo ≡ t.geo → length c ≡ t.geo.n
-    → (t' : TablesMut) {r : Answer} {f' : Flash}
-    → t'.geo ≡ t.geo → Done (collect t.geo bad (state (tables_of t) (flash_of f c))) r (state (tables_of t') f') → Sound t'.geo (tables_of t')
-pass_sound bad t f c S e h t' {r} {f'} g D =
+-- a pass keeps the tables sound, and a mark for each page
+pub pass_kept : (bad : List ℕ) (t : TablesMut) (f : FlashMut) (c : List ℕ) → length t.used.now ≡ pages t.geo → Sound t.geo (tables_of t) → f.geo ≡ t.geo
+    → length c ≡ t.geo.n → (t' : TablesMut) {r : Answer} {f' : Flash}
+    → t'.geo ≡ t.geo → Done (collect t.geo bad (state (tables_of t) (flash_of f c))) r (state (tables_of t') f')
+    → (length t'.used.now ≡ pages t'.geo) × Sound t'.geo (tables_of t')
+pass_kept bad t f c m S e h t' {r} {f'} g D =
     let st : State = state (tables_of t) (flash_of f c) in
-    let K : Kept t.geo st (collect t.geo bad st) = collected t.geo t.good bad st (sound_counted t.geo (tables_of t) (sized t) S) (fits f e h) in
+    let K : Kept t.geo st (collect t.geo bad st) = collected t.geo t.good bad st (sound_counted t.geo (tables_of t) (sized t m) S) (fits f e h) in
     let q : tables_of t' ≡ (collect t.geo bad st).st.tab = ap (λ (s : State). s.tab) D.left in
-    rw (g, q) (counted_sound t.geo _ K.sound)
+    (rw g (ap (λ (x : Tables). length x.used) q ∙ K.sound.sized.used), rw (g, q) (counted_sound t.geo _ K.sound))
 
 -- the list's loop, which began with t₀, f₀ and c₀: k are counted, and the definition from the start ends as the definition from here
 pub record Listing (bad : List ℕ) (m : ℕ) (t₀ : TablesMut) (f₀ : FlashMut) (c₀ : List ℕ) (t : TablesMut) (f : FlashMut) (c : List ℕ) (k : ℕ)
@@ -100,18 +104,20 @@ pub record Listing (bad : List ℕ) (m : ℕ) (t₀ : TablesMut) (f₀ : FlashMu
   pub same : Same t₀ t
   pub same_flash : SameFlash f₀ f
   pub geometry : f.geo ≡ t.geo
+  pub marks : length t.used.now ≡ pages t.geo
   pub sound : Sound t.geo (tables_of t)
   pub counts : length c ≡ t.geo.n
   pub goes : (r : Answer) (s : State) → Done (collect_more t₀.geo bad (m - k) k (state (tables_of t) (flash_of f c))) r s
       → Done (collect_more t₀.geo bad m 0 (state (tables_of t₀) (flash_of f₀ c₀))) r s
 
-pub listing_start : (bad : List ℕ) (m : ℕ) (t : TablesMut) (f : FlashMut) (c : List ℕ) → f.geo ≡ t.geo → Sound t.geo (tables_of t) → length c ≡ t.geo.n
-    → Listing bad m t f c t f c 0
-listing_start bad m t f c e S h =
+pub listing_start : (bad : List ℕ) (m : ℕ) (t : TablesMut) (f : FlashMut) (c : List ℕ) → f.geo ≡ t.geo → length t.used.now ≡ pages t.geo
+    → Sound t.geo (tables_of t) → length c ≡ t.geo.n → Listing bad m t f c t f c 0
+listing_start bad m t f c e u S h =
     record {
       same = search;
       same_flash = search;
       geometry = e;
+      marks = u;
       sound = S;
       counts = h;
       goes = λ r s D. subst (λ j. Done (collect_more t.geo bad j 0 (state (tables_of t) (flash_of f c))) r s) (sub-zero m) D;
@@ -160,13 +166,14 @@ module _ {bad : List ℕ} {m : ℕ} {t₀ : TablesMut} {f₀ : FlashMut} {c₀ :
       listing_drained e = from (Ok k) st' (list_ends G bad (m - (k + 1)) k st y st' D' e)
 
       -- else count one
-      pub listing_more : t'.queued.now ≢ 0 → Same t t' → SameFlash f f' → Sound t'.geo (tables_of t') → length c' ≡ length c
-          → Listing bad m t₀ f₀ c₀ t' f' c' (k + 1)
-      listing_more n S F sound long =
+      pub listing_more : t'.queued.now ≢ 0 → Same t t' → SameFlash f f' → length t'.used.now ≡ pages t'.geo → Sound t'.geo (tables_of t')
+          → length c' ≡ length c → Listing bad m t₀ f₀ c₀ t' f' c' (k + 1)
+      listing_more n S F marks sound long =
           record {
             same = search;
             same_flash = search;
             geometry = F.geo ∙ L.geometry ∙ sym S.geo;
+            marks = marks;
             sound = sound;
             counts = long ∙ L.counts ∙ ap (λ (x : Geometry). x.n) (sym S.geo);
             goes = λ a s E.

@@ -4,7 +4,7 @@
 
 ghost use Rattle.std.specs.Prelude.{◌≡◌, List, ℕ, ◌<◌, length};
 ghost use Rattle.model.specs.Lists.{zeros, total};
-ghost use Rattle.model.specs.Tables.{at};
+ghost use Rattle.model.specs.Tables.{at, pages};
 ghost use Rattle.model.specs.Sound.{Sound};
 ghost use Rattle.model.specs.Device.{state};
 ghost use Rattle.model.specs.Contract.{Done};
@@ -38,6 +38,7 @@ fn drain(
     page: &mut [u8],
 ) -> Answer
     requires one_geometry { f.old.geo ≡ t.old.geo }
+    requires marks { length t.old.used.now ≡ pages t.old.geo }
     requires sound { Sound t.old.geo (tables_of t.old) }
     requires lent { (length bad.now ≡ t.old.geo.n) × (page.old ≡ zeros t.old.geo.s) }
     requires victim { (v < t.old.geo.n) × (at t.old.free.now v ≡ 0) × (at t.old.flags.now v ≡ 1) }
@@ -46,6 +47,7 @@ fn drain(
     ensures done { (c : List ℕ) → Done
         (drain t.old.geo bad.now t.old.geo.p v (state (tables_of t.old) (flash_of f.old c)))
         result (state (tables_of t.new) (flash_of f.new c)) }
+    ensures marks { length t.new.used.now ≡ pages t.new.geo }
     ensures sound { Sound t.new.geo (tables_of t.new) }
     ensures clean { page.new ≡ zeros t.old.geo.s }
 {
@@ -61,7 +63,7 @@ fn drain(
 
 // "reset the record, clear the flag": free and valid count, as a record lent alone; use marks and list of segment v.
 fn reset_segment(t: &mut TablesMut<'_>, v: usize)
-    requires { v < t.old.geo.n }
+    requires { (v < t.old.geo.n) × (length t.old.used.now ≡ pages t.old.geo) }
     ensures same { Same t.old t.new }
     ensures reset { tables_of t.new ≡ unflag t.old.geo v (reset t.old.geo v (tables_of t.old)) }
 {
@@ -86,6 +88,7 @@ pub fn collect(
     order: &mut [u32],
 ) -> Answer
     requires one_geometry { f.old.geo ≡ t.old.geo }
+    requires marks { length t.old.used.now ≡ pages t.old.geo }
     requires sound { Sound t.old.geo (tables_of t.old) }
     requires lent { (length bad.now ≡ t.old.geo.n) × (page.old ≡ zeros t.old.geo.s) }
     requires counts_len { (length counts.old ≡ t.old.geo.n) × (order.old ≡ zeros t.old.geo.n) }
@@ -94,6 +97,7 @@ pub fn collect(
     ensures done { Done
         (collect t.old.geo bad.now (state (tables_of t.old) (flash_of f.old counts.old)))
         result (state (tables_of t.new) (flash_of f.new counts.new)) }
+    ensures marks { length t.new.used.now ≡ pages t.new.geo }
     ensures sound { Sound t.new.geo (tables_of t.new) }
     ensures clean { (page.new ≡ zeros t.old.geo.s) × (order.new ≡ zeros t.old.geo.n) }
 {
@@ -118,6 +122,7 @@ pub fn collect_list(
     order: &mut [u32],
 ) -> Answer
     requires one_geometry { f.old.geo ≡ t.old.geo }
+    requires marks { length t.old.used.now ≡ pages t.old.geo }
     requires sound { Sound t.old.geo (tables_of t.old) }
     requires lent { (length bad.now ≡ t.old.geo.n) × (page.old ≡ zeros t.old.geo.s) }
     requires counts_len { (length counts.old ≡ t.old.geo.n) × (order.old ≡ zeros t.old.geo.n) }
@@ -156,6 +161,7 @@ pub fn collect_threshold(
     order: &mut [u32],
 ) -> Answer
     requires one_geometry { f.old.geo ≡ t.old.geo }
+    requires marks { length t.old.used.now ≡ pages t.old.geo }
     requires sound { Sound t.old.geo (tables_of t.old) }
     requires lent { (length bad.now ≡ t.old.geo.n) × (page.old ≡ zeros t.old.geo.s) }
     requires counts_len { (length counts.old ≡ t.old.geo.n) × (order.old ≡ zeros t.old.geo.n) }

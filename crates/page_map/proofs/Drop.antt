@@ -13,7 +13,7 @@ use Rattle.model.specs.declared.Geometry.{Geometry}
 use Rattle.model.specs.Lists.{occ, on_slot, without}
 use Rattle.model.specs.Numbers.{empty, seg_of}
 use Rattle.model.specs.Tables.{Tables, at, word_of, region, list_of, set_used}
-use Rattle.model.specs.Sound.{Sound, Mapped}
+use Rattle.model.specs.Sound.{Mapped}
 use Rattle.model.specs.PageMap.{unlink, enqueue, due, invalidate, forget}
 use Rattle.model.proofs.Working.{Counted}
 use Rattle.model.proofs.Slots.{any_default}
@@ -25,15 +25,11 @@ use Rattle.model.proofs.Enqueue.{has_room}
 use Rattle.model.proofs.Forget.{forgot}
 use Rattle.tables.specs.declared.TablesMut.{TablesMut}
 use Rattle.tables.specs.Parts.{tables_of, SoundMarksAside}
-use Rattle.tables.proofs.Parts.{sized, sized_with}
+use Rattle.tables.proofs.Parts.{sized_with}
 use Rattle.page_map.specs.Parts.{Room}
 use Rattle.page_map.proofs.Parts.{without_alone, part_alone}
 
--- sound tables in the working form
-pub counted : (t : TablesMut) → Sound t.geo (tables_of t) → Counted t.geo (tables_of t)
-counted t S = sound_counted t.geo (tables_of t) (sized t) S
-
--- and with other marks in the place of those that are lent
+-- sound tables in the working form, with other marks in the place of those that are lent
 pub counted_aside : (t : TablesMut) (S : SoundMarksAside t) → Counted t.geo (set_used S.marks (tables_of t))
 counted_aside t S = sound_counted t.geo (set_used S.marks (tables_of t)) (sized_with t S.marks S.size) S.sound
 
@@ -96,25 +92,33 @@ module _ (G : Geometry) (t : Tables) (l a : ℕ) (is : a ≡ word_of t l) where
   unfolding forget
   forget_some m g e = rw (ne_eqb _ _ (λ q. m (is ∙ q))) (ap (λ x. invalidate G l x t) (e ∙ ap (seg_of G) is))
 
--- forgetting reads no marks: the lists' lengths come out the same
-lens_same : (G : Geometry) (t : Tables) (l : ℕ) (u : List ℕ) → (forget G l (set_used u t)).lens ≡ (forget G l t).lens
-unfolding forget invalidate
-lens_same G t l u = go (eqb (word_of t l) empty) (due G (seg_of G (word_of t l)) t)
-  where
-    g : ℕ
-    g = seg_of G (word_of t l)
+-- invalidating and forgetting read no marks, and leave them
+module _ (G : Geometry) (l : ℕ) (u : List ℕ) (t : Tables) where
+  pub invalidate_aside : (g : ℕ) → set_used u (invalidate G l g t) ≡ invalidate G l g (set_used u t)
+  unfolding invalidate
+  invalidate_aside g = go (due G g t)
+    where
+      left : Tables → Bool → Tables
+      left x d = cond d (enqueue G g (unlink G l g x)) (unlink G l g x)
 
-    left : Tables → Bool → Tables
-    left x d = cond d (enqueue G g (unlink G l g x)) (unlink G l g x)
+      go : (d : Bool) → set_used u (left t d) ≡ left (set_used u t) d
+      go true = refl
+      go false = refl
 
-    go : (b d : Bool) → (cond b (set_used u t) (left (set_used u t) d)).lens ≡ (cond b t (left t d)).lens
-    go true _ = refl
-    go false true = refl
-    go false false = refl
+  pub forget_aside : set_used u (forget G l t) ≡ forget G l (set_used u t)
+  unfolding forget
+  forget_aside = go (eqb (word_of t l) empty)
+    where
+      g : ℕ
+      g = seg_of G (word_of t l)
+
+      go : (b : Bool) → set_used u (cond b t (invalidate G l g t)) ≡ cond b (set_used u t) (invalidate G l g (set_used u t))
+      go true = refl
+      go false = invalidate_aside g
 
 -- after it a list that was shorter than the valid count has room
 pub list_room : (t : TablesMut) → SoundMarksAside t → (l g : ℕ) → at t.lens.now g < at t.valid.now g
     → at (forget t.geo l (tables_of t)).lens g < t.geo.p
 list_room t S l g h =
     let F = forgot t.geo (set_used S.marks (tables_of t)) (counted_aside t S) l in
-    omega (arith, F.gap g h, F.sound.valid≤ g, ap (λ x. at x g) (lens_same t.geo (tables_of t) l S.marks))
+    omega (arith, F.gap g h, F.sound.valid≤ g, ap (λ (x : Tables). at x.lens g) (forget_aside t.geo l S.marks (tables_of t)))

@@ -12,7 +12,7 @@ use Rattle.model.specs.declared.Geometry.{Geometry}
 use Rattle.model.specs.Tables.{Tables, at}
 use Rattle.model.specs.PageMap.{Found, Some, spot, None}
 use Rattle.model.specs.PageMap.{clear_from, or_else, usable, find_from, find}
-use Rattle.model.proofs.Working.{Counted}
+use Rattle.model.specs.Sound.{Sound}
 
 step : {i n : ℕ} → i < n → n - i ≡ suc (n - (i + 1))
 step h = omega arith
@@ -77,13 +77,13 @@ module _ (G : Geometry) (bad : List ℕ) (t : Tables) (i : ℕ) (h : i < G.n) wh
   first = G.p - at t.free nth
 
   -- the first-page rule: the marks below page p - free are set, that of page p - free is clear, so the search stops there
-  pub walk_here : Counted G t → at bad nth ≡ 0 → at t.free nth ≢ 0
+  pub walk_here : Sound G t → at bad nth ≡ 0 → at t.free nth ≢ 0
       → from G bad t i ≡ Some (spot nth (G.p - at t.free nth))
-  walk_here C b f =
+  walk_here S b f =
       let some : 0 < at t.free nth = omega arith in
-      let in-it : first < G.p = omega (arith, C.free≤ nth) in
-      let marked : (k : ℕ) → k < first → at t.used (nth * G.p + k) ≢ 0 = λ k c e. omega (arith, C.marked nth k low (omega arith)) in
-      let clear : at t.used (nth * G.p + first) ≡ 0 = C.clear nth first low in-it (omega arith) in
+      let in-it : first < G.p = omega (arith, S.room nth low) in
+      let marked : (k : ℕ) → k < first → at t.used (nth * G.p + k) ≢ 0 = λ k c e. omega (arith, S.ones nth k low c) in
+      let clear : at t.used (nth * G.p + first) ≡ 0 = S.zeros nth first low (omega arith) in-it in
       let found : scan G t.used nth 0 ≡ Some (spot nth first) =
       scan_on G t.used nth first (omega arith) marked ∙ scan_hit G t.used nth first in-it clear in
       rw (walk_step, eq-eqb _ _ b, lt-ltb _ _ some, found)

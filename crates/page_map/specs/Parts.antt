@@ -12,3 +12,8 @@ close_up i xs = take i xs ++ (drop (suc i) xs ++ (0 ∷ []))
 pub record Room (G : Geometry) (t : Tables) : Type 0 where
   pub some : t.queued < G.n
   pub blank : drop t.queued t.queue ≡ zeros (G.n - t.queued)
+
+-- what a search for a page looks at, of the tables t: the free counts and the allocation segment
+pub record Looked (t : Tables) (free : List ℕ) (alloc : ℕ) : Type 0 where
+  pub free_is : t.free ≡ free
+  pub alloc_is : t.alloc ≡ alloc

@@ -4,15 +4,15 @@
 
 ghost use Rattle.std.specs.Prelude.{◌≡◌, ◌≤◌, ◌<◌, length};
 ghost use Rattle.model.specs.Lists.{occ, without, push_front};
-ghost use Rattle.model.specs.Numbers.{seg_of};
-ghost use Rattle.model.specs.Tables.{at, word_of};
+ghost use Rattle.model.specs.Numbers.{Good, seg_of};
+ghost use Rattle.model.specs.Tables.{Tables, at, word_of, pages};
 ghost use Rattle.model.specs.Sound.{Sound, Mapped};
 ghost use Rattle.model.specs.PageMap.{find, spend, unlink, enqueue, invalidate, forget, place};
 ghost use Rattle.model.specs.PageGc.{last_of};
-ghost use Rattle.tables.specs.Parts.{tables_of, Same, SoundMarksAside};
-ghost use Rattle.page_map.specs.Parts.{close_up, Room};
+ghost use Rattle.tables.specs.Parts.{tables_of, Same, SoundMarksAside, WithAnyMarks};
+ghost use Rattle.page_map.specs.Parts.{close_up, Room, Looked};
 
-use model::{LogicalPage, PhysicalAddress, Spot};
+use model::{Geometry, LogicalPage, PhysicalAddress, Spot};
 use tables::TablesMut;
 
 // The words behind place i one place down, a zero behind.
@@ -57,21 +57,23 @@ pub fn last_listed(t: &TablesMut<'_>, v: usize) -> LogicalPage
 
 // The first clear page of the first segment, from the allocation segment on, that is not bad and has one. The first-page rule: a segment's used pages are
 // its first ones, so its first clear page is page p - free, and the marks are not looked at. A label yields the page found, as document 01 asks of this walk.
-pub fn find_page(t: &TablesMut<'_>, bad: &[u8]) -> Option<Spot>
-    requires sound { Sound t.now.geo (tables_of t.now) }
-    requires bad_len { length bad.now ≡ t.now.geo.n }
-    ensures { result ≡ find t.now.geo bad.now (tables_of t.now) }
+// It looks at the allocation segment and the free counts alone, so no more is lent to it, and these to look at.
+pub fn find_page(geo: Geometry, bad: &[u8], alloc: u32, free: &[u32]) -> Option<Spot>
+    requires good { Good geo }
+    requires sound { (t : Tables) × Sound geo t × Looked t free.now alloc }
+    requires sizes { (length free.now ≡ geo.n) × (length bad.now ≡ geo.n) }
+    ensures { (t : Tables) → Sound geo t → Looked t free.now alloc → result ≡ find geo bad.now t }
 {
-    let n = t.geo.n;
-    let alloc = *t.alloc as usize;
+    let n = geo.n;
+    let alloc = alloc as usize;
     'walk: {
         for i in 0..n {
             let segment = (alloc + i) % n;
-            let free = t.free[segment] as usize;
+            let free = free[segment] as usize;
             if bad[segment] == 0 && free != 0 {
                 break 'walk Some(Spot {
                     segment,
-                    page: t.geo.p - free,
+                    page: geo.p - free,
                 });
             }
         }
@@ -81,6 +83,7 @@ pub fn find_page(t: &TablesMut<'_>, bad: &[u8]) -> Option<Spot>
 
 // The page is used from now on, and its segment is the allocation segment.
 pub fn spend(t: &mut TablesMut<'_>, spot: Spot)
+    requires marks { length t.old.used.now ≡ pages t.old.geo }
     requires sound { Sound t.old.geo (tables_of t.old) }
     requires in_bounds { (spot.segment < t.old.geo.n) × (spot.page < t.old.geo.p) × (0 < at t.old.free.now spot.segment) }
     ensures same { Same t.old t.new }
@@ -126,6 +129,7 @@ pub fn invalidate(t: &mut TablesMut<'_>, l: LogicalPage, g: usize)
     requires mapped { Mapped (tables_of t.old) l.0 × (seg_of t.old.geo (word_of (tables_of t.old) l.0) ≡ g) }
     ensures same { Same t.old t.new }
     ensures invalidated { tables_of t.new ≡ invalidate t.old.geo l.0 g (tables_of t.old) }
+    ensures any_marks { WithAnyMarks (invalidate t.old.geo l.0 g) t.old t.new }
 {
     unlink(t, l, g);
     if t.free[g] == 0 && t.flags[g] == 0 {
@@ -139,6 +143,7 @@ pub fn forget(t: &mut TablesMut<'_>, l: LogicalPage)
     requires l_lt_e { l.0 < t.old.geo.e }
     ensures same { Same t.old t.new }
     ensures forgotten { tables_of t.new ≡ forget t.old.geo l.0 (tables_of t.old) }
+    ensures any_marks { WithAnyMarks (forget t.old.geo l.0) t.old t.new }
 {
     let a = PhysicalAddress(t.map[l.0]);
     if a.is_empty() {
@@ -153,6 +158,7 @@ pub fn place(t: &mut TablesMut<'_>, l: LogicalPage, spot: Spot)
     requires in_bounds { (l.0 < t.old.geo.e) × (spot.segment < t.old.geo.n) × (spot.page < t.old.geo.p) × (at t.old.lens.now spot.segment < t.old.geo.p) }
     ensures same { Same t.old t.new }
     ensures placed { tables_of t.new ≡ place t.old.geo l.0 spot.segment spot.page (tables_of t.old) }
+    ensures any_marks { WithAnyMarks (place t.old.geo l.0 spot.segment spot.page) t.old t.new }
 {
     let g = spot.segment;
     let end = g * t.geo.p + t.lens[g] as usize;
@@ -168,6 +174,7 @@ pub fn remap(t: &mut TablesMut<'_>, l: LogicalPage, spot: Spot)
     requires room { at t.old.lens.now spot.segment < at t.old.valid.now spot.segment }
     ensures same { Same t.old t.new }
     ensures remapped { tables_of t.new ≡ place t.old.geo l.0 spot.segment spot.page (forget t.old.geo l.0 (tables_of t.old)) }
+    ensures any_marks { WithAnyMarks (λ x. place t.old.geo l.0 spot.segment spot.page (forget t.old.geo l.0 x)) t.old t.new }
 {
     forget(t, l);
     place(t, l, spot);

@@ -18,7 +18,7 @@ use Rattle.model.specs.declared.Cause.{Cause}
 use Rattle.model.specs.declared.Cause.TheVariants.{NoRoom, Device}
 use Rattle.model.specs.Lists.{slot, splice, zeros}
 use Rattle.model.specs.Numbers.{Ok, Err, empty, seg_of, page_of}
-use Rattle.model.specs.Tables.{Tables, at, word_of}
+use Rattle.model.specs.Tables.{Tables, at, word_of, pages}
 use Rattle.model.specs.Sound.{Sound}
 use Rattle.model.specs.Device.{Flash, State, state, may_program, programmed}
 use Rattle.model.specs.Contract.{Done}
@@ -65,9 +65,9 @@ module _ (t : TablesMut) where
         ∙ sym (old_mapped G (state (tables_of t) f) l (λ q. eqb-false a empty (sym e) (word ∙ q)))
 
   -- the page found is the next of a segment with room
-  module _ (S : Sound G (tables_of t)) where
+  module _ (marks : length t.used.now ≡ pages G) (S : Sound G (tables_of t)) where
     counted : Counted G (tables_of t)
-    counted = sound_counted G (tables_of t) (sized t) S
+    counted = sound_counted G (tables_of t) (sized t marks) S
 
     module _ (bad : List ℕ) (x : Spot) (hit : find G bad (tables_of t) ≡ Some x) where
       next : Next G (tables_of t) x.segment x.page
@@ -87,8 +87,14 @@ module _ (t : TablesMut) where
 
       -- what is so once it is spent
       module _ (t' : TablesMut) (same : Same t t') (spent : tables_of t' ≡ spend G x.segment x.page (tables_of t)) where
+        spent_counted : Counted G (spend G x.segment x.page (tables_of t))
+        spent_counted = spend_sound G (tables_of t) counted x.segment x.page next
+
+        pub spent_marks : length t'.used.now ≡ pages t'.geo
+        spent_marks = rw same.geo (ap (λ (y : Tables). length y.used) spent ∙ spent_counted.sized.used)
+
         pub spent_sound : Sound t'.geo (tables_of t')
-        spent_sound = rw (same.geo, spent) (counted_sound G _ (spend_sound G (tables_of t) counted x.segment x.page next))
+        spent_sound = rw (same.geo, spent) (counted_sound G _ spent_counted)
 
         pub spent_gap : at t'.lens.now x.segment < at t'.valid.now x.segment
         spent_gap =

@@ -3,7 +3,7 @@
 
 ghost use Rattle.std.specs.Prelude.{◌≡◌, cond, ◌<◌, ◌≤◌};
 ghost use Rattle.model.specs.Checkpoint.{dead?, queue_last, queue_dead, requeued};
-ghost use Rattle.tables.specs.Parts.{tables_of, Same};
+ghost use Rattle.tables.specs.Parts.{tables_of, Same, WithAnyMarks};
 
 use model::Queueing;
 use tables::TablesMut;
@@ -32,6 +32,7 @@ fn queue_all(t: &mut TablesMut<'_>)
     requires { t.old.queued.now ≡ 0 }
     ensures same { Same t.old t.new }
     ensures queued { tables_of t.new ≡ queue_dead t.old.geo t.old.geo.n 0 (tables_of t.old) }
+    ensures any_marks { WithAnyMarks (queue_dead t.old.geo t.old.geo.n 0) t.old t.new }
 {
     for g in 0..t.geo.n {
         if is_dead(t, g) {
@@ -45,6 +46,7 @@ pub fn requeue(t: &mut TablesMut<'_>, queueing: Queueing)
     requires { t.old.queued.now ≡ 0 }
     ensures same { Same t.old t.new }
     ensures requeued { tables_of t.new ≡ requeued t.old.geo queueing (tables_of t.old) }
+    ensures any_marks { WithAnyMarks (requeued t.old.geo queueing) t.old t.new }
 {
     match queueing {
         Queueing::Empty => {}

@@ -24,12 +24,12 @@ sized_with t marks h =
       flags = t.flags_len;
     }
 
-pub sized : (t : TablesMut) → Sized t.geo (tables_of t)
-sized t = sized_with t t.used.now t.used_len
+pub sized : (t : TablesMut) → length t.used.now ≡ pages t.geo → Sized t.geo (tables_of t)
+sized t = sized_with t t.used.now
 
 -- the marks that are lent are some marks
-pub marks_aside : (t : TablesMut) → Sound t.geo (tables_of t) → SoundMarksAside t
-marks_aside t S = record { marks = t.used.now; size = t.used_len; sound = S }
+pub marks_aside : (t : TablesMut) → length t.used.now ≡ pages t.geo → Sound t.geo (tables_of t) → SoundMarksAside t
+marks_aside t h S = record { marks = t.used.now; size = h; sound = S }
 
 -- the words, cut into their parts one after the other, and the use marks
 module _ (G : Geometry) (w u : List ℕ) where

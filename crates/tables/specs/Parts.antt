@@ -18,6 +18,10 @@ pub record SoundMarksAside (t : TablesMut) : Type 0 where
   pub size : length marks ≡ pages t.geo
   pub sound : Sound t.geo (set_used marks (tables_of t))
 
+-- What a step on words alone promises, for any use marks: those that are lent stay, and whatever stood in their place would.
+abbrev pub WithAnyMarks : (Tables → Tables) → TablesMut → TablesMut → Type 0
+WithAnyMarks f a b = (u : List ℕ) → set_used u (tables_of b) ≡ f (set_used u (tables_of a))
+
 -- the geometry and the places lent are the same: what a call leaves lies where it was lent
 pub record Same (a b : TablesMut) : Type 0 where
   pub geo : b.geo ≡ a.geo

@@ -10,7 +10,8 @@ use model::Geometry;
 pub mod packed;
 
 // "map: a word for each logical page. Of each segment: free and valid count, list length, flag, list (p slots each). used: a mark for each page."
-// The queue has n slots, `queued` in use; alloc is the allocation segment.
+// The queue has n slots, `queued` in use; alloc is the allocation segment. Use marks are asked for by the functions that need them: a step that touches
+// words alone takes any, also none.
 #[derive(Drop)]
 pub struct TablesMut<'a> {
     pub geo: Geometry,
@@ -32,7 +33,6 @@ pub struct TablesMut<'a> {
     pub ghost queue_len: { length queue.now ≡ geo.n },
     pub ghost flags_len: { length flags.now ≡ geo.n },
     pub ghost lists_len: { length lists.now ≡ geo.n * geo.p },
-    pub ghost used_len: { length used.now ≡ geo.n * geo.p },
 }
 
 // Tables that lie in words, and their use marks, lent to look at. Where each part lies stands here, and in `on_packed`, which cuts what is lent to change.

@@ -17,7 +17,8 @@ pub trait Deed {
     ghost does: { Geometry → Tables → Self → Answer → Tables → Self → Type 0 };
 
     fn run(&mut self, t: &mut TablesMut<'_>) -> Answer
-        requires { may t.old.geo (tables_of t.old) self.old }
+        requires marks { length t.old.used.now ≡ pages t.old.geo }
+        requires may { may t.old.geo (tables_of t.old) self.old }
         ensures same { Same t.old t.new }
         ensures does { does t.old.geo (tables_of t.old) self.old result (tables_of t.new) self.new };
 }

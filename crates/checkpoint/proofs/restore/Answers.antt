@@ -1,5 +1,7 @@
 -- `restore` meets its contract: the words are read in, the use marks set, the words settled, the taken marks cleared.
-use Rattle.std.proofs.Common.{◌*◌, sym, ap, ◌∙◌}
+use Rattle.std.proofs.Common.{ℕ, ◌*◌, length, sym, ap, ap₂, ◌∙◌}
+use Rattle.model.specs.declared.Geometry.{Geometry}
+use Rattle.model.specs.Tables.{Tables}
 use Rattle.tables.specs.Parts.{tables_of}
 use Rattle.checkpoint.proofs.Restoring.{free_least, begins, comes}
 use Rattle.checkpoint.proofs.restore.Goals as goal
@@ -7,8 +9,11 @@ use Rattle.checkpoint.proofs.restore.Goals as goal
 pub mark_used-requires : goal.mark_used-requires
 mark_used-requires c =
     let t = c.args.t.now in
-    let r = c.read_in.new.t in (
-      r.used_len ∙ ap (λ k. k * r.geo.p) (sym r.free_len),
+    let r = c.read_in.new.t in
+    let geo = c.read_in.ensures.same.geo in (
+      ap (λ (x : Tables). length x.used) c.read_in.ensures.read
+      ∙ c.requires.marks
+      ∙ ap₂ (λ (n p : ℕ). n * p) (sym (r.free_len ∙ ap (λ (G : Geometry). G.n) geo)) (ap (λ (G : Geometry). G.p) (sym geo)),
       free_least t.geo r.geo c.read_in.ensures.same.geo c.args.file.now t.used.now c.requires.passes (tables_of r) c.read_in.ensures.read,
     )
 

@@ -8,7 +8,7 @@ pub loop-k-init : goal.loop-k-init
 loop-k-init c =
     let a = c.args in
     let r = c.requires in
-    record { listing = listing_start a.bad.now a.m a.t.now a.f.now a.counts.now r.one_geometry r.sound r.counts_len.0; clean = (r.lent.1, r.counts_len.1) }
+    record { listing = listing_start a.bad.now a.m a.t.now a.f.now a.counts.now r.one_geometry r.marks r.sound r.counts_len.0; clean = (r.lent.1, r.counts_len.1) }
 
 pub returns-in_err-collect-clause-done : goal.returns-in_err-collect-clause-done
 returns-in_err-collect-clause-done c =
@@ -30,7 +30,7 @@ loop-k-preserved c =
     record {
       listing =
           listing_more L c.loop-k-test.true p.new.t p.new.f p.new.counts (rw L.same.geo at c.in_ok-collect.ensures.done) _ refl c.if-t-eq0.false
-          p.ensures.same p.ensures.same_flash p.ensures.sound p.auto.counts;
+          p.ensures.same p.ensures.same_flash p.ensures.marks p.ensures.sound p.auto.counts;
       clean = rw L.same.geo at p.ensures.clean;
     }
 

@@ -1,7 +1,8 @@
 -- Each turn is the definition's: `walk_queued`, `walk_passed`; and at the end nothing is left: `walk_end`.
-use Rattle.std.proofs.Common.{sym, ◌∙◌, arith, rules}
+use Rattle.std.proofs.Common.{sym, ap, ◌∙◌, arith, rules}
+use Rattle.model.specs.Tables.{set_used}
 use Rattle.tables.specs.Parts.{tables_of}
-use Rattle.requeue.proofs.Laws.{walk_queued, walk_passed, walk_end}
+use Rattle.requeue.proofs.Laws.{walk_queued, walk_passed, walk_end, queue_aside}
 use Rattle.requeue.proofs.queue_all.Goals as goal
 use Rattle.requeue.proofs.queue_all.Goals.{then-is_dead, else-is_dead}
 
@@ -25,3 +26,8 @@ loop-g-preserved c =
 pub returns-clause-queued : goal.returns-clause-queued
 returns-clause-queued c =
     walk_end c.args.t.now.geo (tables_of c.args.t.now) c.loop-g.g (tables_of c.loop-g.t) c.loop-g.invariant.walked (omega arith)
+
+pub returns-clause-any_marks : goal.returns-clause-any_marks
+returns-clause-any_marks c = λ u.
+    let G = c.args.t.now.geo in
+    ap (set_used u) (returns-clause-queued c) ∙ queue_aside G u G.n 0 (tables_of c.args.t.now)
