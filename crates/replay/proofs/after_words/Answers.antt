@@ -1,18 +1,17 @@
--- `after_words` meets its contract: one word more is taken in after those before it.
-use Rattle.std.proofs.Common.{◌≡◌, subst, rules}
-use Rattle.std.proofs.lemmas.Fn.{fold_over, slice_gives, fronts}
-use Rattle.crc32.specs.Crc32.{after}
-use Rattle.model.specs.Checkpoint.{word, words}
-use Rattle.checkpoint.proofs.Bytes.{word_is}
-use Rattle.replay.proofs.Joined.{no_words, next_word}
+-- `after_words` meets its contract: each slice of words is taken in after those before it, and none is left at the end.
+use Rattle.std.proofs.Common.{◌∙◌, arith}
+use Rattle.replay.proofs.Joined.{no_words, next_words}
 use Rattle.replay.proofs.after_words.Goals as goal
 
+pub loop-part-preserved : goal.loop-part-preserved
+loop-part-preserved c =
+    let steps = c.in-Some.ensures.steps in
+    let before = c.loop-part.invariant in
+    record {
+      size = steps.0 ∙ before.size;
+      fits = omega arith;
+      left = next_words c.loop-part.crc _ _ _ before.fits steps.1.0 c.after_part-crc.ensures ∙ before.left;
+    }
+
 pub returns : goal.returns
-returns c =
-    subst (λ l. c.fold.result ≡ after c.args.state (words l)) c.iter.ensures.rest
-    (fold_over fronts (λ y. y.now) _ (λ ws x. x ≡ after c.args.state (words ws)) _
-    (λ ws x w y f' e k.
-    let bytes = word_is w.now in
-    let taken : y ≡ after x (word w.now) = search rules in
-    (next_word c.args.state ws w.now c.ranges.state.fits e taken, search rules))
-    _ _ _ _ (slice_gives c.iter.result) (no_words c.args.state c.ranges.state.fits) c.fold.ensures.ran)
+returns c = no_words c.loop-part.crc _ c.loop-part.invariant.fits c.in-None.ensures.steps.1.0 ∙ c.loop-part.invariant.left
