@@ -133,14 +133,17 @@ impl<'a> Home<'a> {
         true
     }
 
-    // The same, with the marks handed back all 0.
+    // The same, with the marks handed back all 0. Those that can be set are cleared, and of a segment with no used page none: a call for each costs more
+    // than the rest of the test of a small one.
     fn listed(&self, list: &[u32], seen: &mut [u8]) -> bool
         requires { (seen.old ≡ zeros (length seen.old)) × (self.now.used ≤ length seen.old) }
         ensures says { Says result (Entries list.now self.now.map.now self.now.first self.now.used) }
         ensures seen_unchanged { seen.new ≡ seen.old }
     {
         let ok = self.mark(list, seen);
-        seen.fill(0);
+        if self.used > 0 {
+            seen[..self.used].fill(0);
+        }
         ok
     }
 

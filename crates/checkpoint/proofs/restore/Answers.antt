@@ -12,8 +12,8 @@ mark_used-requires c =
     let r = c.read_in.new.t in
     let geo = c.read_in.ensures.same.geo in (
       ap (λ (x : Tables). length x.used) c.read_in.ensures.read
-      ∙ c.requires.marks
-      ∙ ap₂ (λ (n p : ℕ). n * p) (sym (r.free_len ∙ ap (λ (G : Geometry). G.n) geo)) (ap (λ (G : Geometry). G.p) (sym geo)),
+          ∙ c.requires.marks
+          ∙ ap₂ (λ (n p : ℕ). n * p) (sym (r.free_len ∙ ap (λ (G : Geometry). G.n) geo)) (ap (λ (G : Geometry). G.p) (sym geo)),
       free_least t.geo r.geo c.read_in.ensures.same.geo c.args.file.now t.used.now c.requires.passes (tables_of r) c.read_in.ensures.read,
     )
 

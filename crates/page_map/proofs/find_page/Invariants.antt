@@ -1,7 +1,6 @@
 -- On any sound tables that look so, what is found from the start is what is found from here.
 use Rattle.std.proofs.Common.{◌≡◌}
 use Rattle.model.specs.Tables.{Tables}
-use Rattle.model.specs.Sound.{Sound}
 use Rattle.model.specs.PageMap.{find}
 use Rattle.page_map.specs.Parts.{Looked}
 use Rattle.page_map.proofs.Walk.{from}

@@ -1,5 +1,5 @@
 -- The lent tables are sound, and look as they do.
-use Rattle.std.proofs.Common.{refl, sym}
+use Rattle.std.proofs.Common.{refl}
 use Rattle.tables.specs.Parts.{tables_of}
 use Rattle.page_write.proofs.found.Goals as goal
 
