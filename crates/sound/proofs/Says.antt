@@ -8,6 +8,11 @@ pub says_iff : {P Q : Type 0} (r : Bool) → (P → Q) → (Q → P) → Says r 
 says_iff true f g h = f h
 says_iff false f g h = λ q. h (g q)
 
+-- a test that passed, where P holds
+pub says_holds : {P : Type 0} (r : Bool) → r ≡ true → P → Says r P
+says_holds true e p = p
+says_holds false e p = cc
+
 -- a test that failed, where Q would have it pass
 pub says_not : {Q : Type 0} (r : Bool) → r ≡ false → (Q → ⊥) → Says r Q
 says_not true e f = cc

@@ -133,28 +133,26 @@ impl<'a> Home<'a> {
         true
     }
 
-    // The same, with the marks handed back all 0. Those that can be set are cleared, and of a segment with no used page none: a call for each costs more
-    // than the rest of the test of a small one.
+    // The same, with the marks handed back all 0.
     fn listed(&self, list: &[u32], seen: &mut [u8]) -> bool
         requires { (seen.old ≡ zeros (length seen.old)) × (self.now.used ≤ length seen.old) }
         ensures says { Says result (Entries list.now self.now.map.now self.now.first self.now.used) }
         ensures seen_unchanged { seen.new ≡ seen.old }
     {
         let ok = self.mark(list, seen);
-        if self.used > 0 {
-            seen[..self.used].fill(0);
-        }
+        seen.fill(0);
         ok
     }
 
-    // Whether the segment's list slots are right: the first `len` as `listed` says, the others 0.
+    // Whether the segment's list slots are right: the first `len` as `listed` says, the others 0. An empty list marks nothing, and to clear the marks
+    // behind it would cost more than the rest of the test of a small segment.
     fn slots(&self, list: &[u32], len: usize, seen: &mut [u8]) -> bool
         requires len_in_bounds { len ≤ length list.now }
         requires seen_value { (seen.old ≡ zeros (length seen.old)) × (self.now.used ≤ length seen.old) }
         ensures says { Says result (Slots list.now len self.now.map.now self.now.first self.now.used) }
         ensures seen_unchanged { seen.new ≡ seen.old }
     {
-        every(&list[len..], 0) && self.listed(&list[..len], seen)
+        every(&list[len..], 0) && (len == 0 || self.listed(&list[..len], seen))
     }
 }
 
