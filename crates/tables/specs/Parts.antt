@@ -18,7 +18,7 @@ pub record SoundMarksAside (t : TablesMut) : Type 0 where
   pub size : length marks ≡ pages t.geo
   pub sound : Sound t.geo (set_used marks (tables_of t))
 
--- What a step on words alone promises, for any use marks: those that are lent stay, and whatever stood in their place would.
+-- With any use marks in the place of those that are lent, b is what f makes of a. A step on words alone promises it beside what it does to those lent.
 abbrev pub WithAnyMarks : (Tables → Tables) → TablesMut → TablesMut → Type 0
 WithAnyMarks f a b = (u : List ℕ) → set_used u (tables_of b) ≡ f (set_used u (tables_of a))
 
