@@ -180,6 +180,7 @@ pub fn open(t: &mut TablesMut<'_>)
     requires marks { length t.old.used.now ≡ pages t.old.geo }
     ensures same { Same t.old t.new }
     ensures opened { tables_of t.new ≡ opened t.old.geo t.old.alloc.now }
+    ensures marks { length t.new.used.now ≡ pages t.new.geo }
 {
     t.map.fill(PhysicalAddress::EMPTY.0);
     t.free.fill(t.geo.p as u32);
@@ -276,6 +277,7 @@ pub fn restore(t: &mut TablesMut<'_>, file: &[u8], taken: &mut [u8])
     requires passes { reason_of t.old.geo file.now ≡ 0 }
     ensures same { Same t.old t.new }
     ensures restored { tables_of t.new ≡ restored_from t.old.geo file.now }
+    ensures marks { length t.new.used.now ≡ pages t.new.geo }
     ensures clean { taken.new ≡ zeros (pages t.old.geo) }
 {
     read_in(t, file);

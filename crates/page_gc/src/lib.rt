@@ -131,6 +131,7 @@ pub fn collect_list(
     ensures done { Done
         (collect_more t.old.geo bad.now m 0 (state (tables_of t.old) (flash_of f.old counts.old)))
         result (state (tables_of t.new) (flash_of f.new counts.new)) }
+    ensures marks { length t.new.used.now ≡ pages t.new.geo }
     ensures clean { (page.new ≡ zeros t.old.geo.s) × (order.new ≡ zeros t.old.geo.n) }
 {
     for k in 0..m {
@@ -170,6 +171,7 @@ pub fn collect_threshold(
     ensures done { Done
         (collect_threshold t.old.geo bad.now threshold m (state (tables_of t.old) (flash_of f.old counts.old)))
         result (state (tables_of t.new) (flash_of f.new counts.new)) }
+    ensures marks { length t.new.used.now ≡ pages t.new.geo }
     ensures clean { (page.new ≡ zeros t.old.geo.s) × (order.new ≡ zeros t.old.geo.n) }
 {
     if threshold < total_free(t) {

@@ -88,6 +88,7 @@ pub fn spend(t: &mut TablesMut<'_>, spot: Spot)
     requires in_bounds { (spot.segment < t.old.geo.n) × (spot.page < t.old.geo.p) × (0 < at t.old.free.now spot.segment) }
     ensures same { Same t.old t.new }
     ensures spent { tables_of t.new ≡ spend t.old.geo spot.segment spot.page (tables_of t.old) }
+    ensures marks { length t.new.used.now ≡ pages t.new.geo }
 {
     let g = spot.segment;
     t.used[t.geo.number_of(spot)] = 1;

@@ -68,6 +68,7 @@ pub fn write_page(
     ensures done { (c : List ℕ) → Done
         (write_page t.old.geo bad.now l.0 off xs.now (state (tables_of t.old) (flash_of f.old c)))
         result (state (tables_of t.new) (flash_of f.new c)) }
+    ensures marks { length t.new.used.now ≡ pages t.new.geo }
     ensures clean { page.new ≡ zeros t.old.geo.s }
 {
     let at = found(t, bad).ok_or(Cause::NoRoom)?;

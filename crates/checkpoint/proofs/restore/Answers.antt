@@ -3,6 +3,7 @@ use Rattle.std.proofs.Common.{ℕ, ◌*◌, length, sym, ap, ap₂, ◌∙◌}
 use Rattle.model.specs.declared.Geometry.{Geometry}
 use Rattle.model.specs.Tables.{Tables}
 use Rattle.tables.specs.Parts.{tables_of}
+use Rattle.model.proofs.Sealed.{accepted_sound}
 use Rattle.checkpoint.proofs.Restoring.{free_least, begins, comes}
 use Rattle.checkpoint.proofs.restore.Goals as goal
 
@@ -35,3 +36,9 @@ returns-clause-restored c =
     c.mark_used.ensures
     t.good
     c.settle_all.ensures.ending
+
+pub returns-clause-marks : goal.returns-clause-marks
+returns-clause-marks c =
+    let a = c.args in
+    let S = accepted_sound a.t.now.geo a.file.now c.requires.passes a.t.now.good in
+    rw (c.settle_all.ensures.same.geo, c.read_in.ensures.same.geo) (ap (λ (x : Tables). length x.used) (returns-clause-restored c) ∙ S.sized.used)
