@@ -2,8 +2,8 @@
 use Rattle.std.proofs.Common.{ℕ, ◌*◌, length, sym, ap, ap₂, ◌∙◌}
 use Rattle.model.specs.declared.Geometry.{Geometry}
 use Rattle.model.specs.Tables.{Tables}
-use Rattle.tables.specs.Parts.{tables_of}
 use Rattle.model.proofs.Sealed.{accepted_sound}
+use Rattle.tables.specs.Parts.{tables_of}
 use Rattle.checkpoint.proofs.Restoring.{free_least, begins, comes}
 use Rattle.checkpoint.proofs.restore.Goals as goal
 
